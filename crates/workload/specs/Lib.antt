@@ -1,0 +1,4 @@
+pub mod Machine
+pub mod Body
+pub mod Ledger
+pub mod Spacing
