@@ -1,0 +1,4 @@
+pub mod Lists
+pub mod Sends
+pub mod Views
+pub mod Networks

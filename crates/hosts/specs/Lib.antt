@@ -1,0 +1,5 @@
+pub mod Checks
+pub mod Bounded
+pub mod Host
+pub mod Network
+pub mod View
