@@ -3,3 +3,4 @@ pub mod Bounded
 pub mod Host
 pub mod Network
 pub mod View
+pub mod Run

@@ -2,7 +2,7 @@
 use mathlib.Core.Bool.{Bool, cond, not, _&&_, _||_}
 use mathlib.Core.List.{List, [], _∷_, _++_}
 use Prim.Native.Nat.{ℕ, suc, _+_}
-use lib.Dec.{eqb, ltb}
+use lib.Dec.{eqb, leb, ltb}
 use lib.ListN.{length}
 use Rattle.std.specs.Finite.{nth}
 use Rattle.std.specs.Options.{isSome, mapped}
@@ -10,11 +10,12 @@ use Rattle.std.specs.declared.option.Option.{Option}
 use Rattle.std.specs.declared.option.Option.the-variants.{Some, None}
 use Rattle.std.specs.declared.result.Result.{Result}
 use Rattle.std.specs.declared.result.Result.the-variants.{Ok}
+use Rattle.workload.specs.declared.Workload as workload
 use Rattle.workload.specs.Machine.{Machine, replaced}
 use Rattle.hosts.specs.declared.message.Message.{Message}
 use Rattle.hosts.specs.declared.message.Receipt.{Receipt}
 use Rattle.hosts.specs.declared.refusal.Refusal.{Refusal}
-use Rattle.hosts.specs.declared.refusal.Refusal.the-variants.{NoSuchHost, NoSuchSender, NothingWaits, ReceiptsFull, PostsFull}
+use Rattle.hosts.specs.declared.refusal.Refusal.the-variants.{HostCount, NoSuchHost, NoSuchSender, NothingWaits, ReceiptsFull, PostsFull}
 use Rattle.hosts.specs.Checks.{checked, unless-refused}
 use Rattle.hosts.specs.Host.{Host, fresh, taking}
 
@@ -70,17 +71,24 @@ module _ {S : Type 0} (v : Network S) where
   abbrev pub is-sender : ℕ → ℕ → Bool
   is-sender p s = eqb s outside || (ltb s (v .n) && not (eqb s p))
 
-  abbrev pub delivery-checks : ℕ → ℕ → List (Bool × Refusal)
-  delivery-checks p s =
-      (ltb p (v .n), NoSuchHost) ∷ (is-sender p s, NoSuchSender) ∷ (isSome (waiting p s), NothingWaits) ∷ (ltb (length (v .hosts p .receipts)) 64, ReceiptsFull) ∷ []
+  -- a receiver and a sender that may be named together
+  abbrev pub pair-checks : ℕ → ℕ → List (Bool × Refusal)
+  pair-checks p s = (ltb p (v .n), NoSuchHost) ∷ (is-sender p s, NoSuchSender) ∷ []
+
+  abbrev pub message-checks : ℕ → ℕ → List (Bool × Refusal)
+  message-checks p s = (isSome (waiting p s), NothingWaits) ∷ (ltb (length (v .hosts p .receipts)) 64, ReceiptsFull) ∷ []
 
   -- The outside world posts b to p: the ssn, and the network then.
   abbrev pub posting : ℕ → ℕ → Result ℕ Refusal × Network S
   posting p b = unless-refused (checked (post-checks p)) v (Ok (length (v .posts p) + 1), with-post p b)
 
-  -- p takes the next message from s: its ssn, and the network then.
+  -- Host p takes the next message from s: its ssn, and the network then.
   abbrev pub delivering : ℕ → ℕ → Result ℕ Refusal × Network S
-  delivering p s = unless-refused (checked (delivery-checks p s)) v (Ok (received p s + 1), takes p (waiting p s))
+  delivering p s = unless-refused (checked (pair-checks p s ++ message-checks p s)) v (Ok (received p s + 1), takes p (waiting p s))
+
+  -- What is shown of host p.
+  abbrev pub showing : ℕ → Result ℕ Refusal
+  showing p = unless-refused (checked ((ltb p (v .n), NoSuchHost) ∷ [])) v (Ok (v .machine .shown (v .hosts p .state)), v) .0
 
 -- n hosts that have taken nothing
 abbrev pub started : {S : Type 0} → Machine S → ℕ → Network S
@@ -89,3 +97,7 @@ started m n = record { n = n; machine = m; hosts = λ h. fresh m h; posts = λ h
 -- no hosts yet: the workload is as it was handed over
 abbrev pub unstarted : {S : Type 0} → Machine S → (ℕ → S) → Network S
 unstarted m state = record { n = 0; machine = m; hosts = λ h. record { state = state h; receipts = []; sends = []; outputs = [] }; posts = λ h. []; released = λ h. [] }
+
+-- A start with n hosts, on a run that may have been used before.
+abbrev pub starting : {W S : Type 0} → workload.Ghosts W S → Network S → ℕ → Result ℕ Refusal × Network S
+starting work v n = unless-refused (checked ((leb 2 n && leb n 8, HostCount) ∷ [])) v (Ok 0, started (work .machine n) n)

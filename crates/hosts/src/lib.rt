@@ -2,6 +2,7 @@
 
 pub mod bounded;
 pub mod by_host;
+pub mod crash_free;
 pub mod hosts;
 pub mod message;
 pub mod outside;

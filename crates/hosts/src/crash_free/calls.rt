@@ -1,0 +1,91 @@
+ghost use mathlib.Core.Path.{_≡_};
+ghost use Prim.Native.Nat.{_≤_, _<_};
+ghost use Rattle.std.specs.Finite.{nth};
+ghost use Rattle.hosts.specs.Checks.{checked};
+ghost use Rattle.hosts.specs.Network.{Network, unstarted, post-checks, pair-checks, posting, delivering, starting, showing};
+ghost use Rattle.hosts.specs.View.{look};
+use super::CrashFree;
+use crate::hosts::Hosts;
+use crate::refusal::Refusal;
+use workload::OUTSIDE;
+use workload::Workload;
+
+impl<W: Workload> CrashFree<W> {
+    /// A run that has not started, over this workload: it has no hosts.
+    pub fn new(workload: W) -> CrashFree<W>
+        ensures { λ r. ⌜ look W·Workload (r .hosts) ≡ unstarted (W·Workload .machine (W·Workload .hosts workload)) (W·Workload .state workload) ⌝ }
+    {
+        CrashFree {
+            hosts: Hosts::new(workload),
+        }
+    }
+
+    /// Starts anew with n hosts.
+    pub fn start(&mut self, n: u8) -> Result<u64, Refusal>
+        ensures { λ r. ⌜ starting W·Workload (look W·Workload (now (self .entry) .hosts)) n ≡ (r, look W·Workload (now (self .exit) .hosts)) ⌝ }
+    {
+        if n < 2 || n > 8 {
+            return Err(Refusal::HostCount);
+        }
+        self.hosts.start(n);
+        Ok(0)
+    }
+
+    fn check_post(&self, p: u8) -> Result<(), Refusal>
+        ensures { λ r. ⌜ r ≡ checked (post-checks (look W·Workload (now (self .entry) .hosts)) p) ⌝ }
+    {
+        if p >= self.hosts.n() {
+            return Err(Refusal::NoSuchHost);
+        }
+        if self.hosts.posts(p) >= 64 {
+            return Err(Refusal::PostsFull);
+        }
+        Ok(())
+    }
+
+    /// The outside world posts a body to host p. Answers its ssn.
+    pub fn post(&mut self, p: u8, body: u64) -> Result<u64, Refusal>
+        ensures { λ r. ⌜ posting (look W·Workload (now (self .entry) .hosts)) p body ≡ (r, look W·Workload (now (self .exit) .hosts)) ⌝ }
+    {
+        self.check_post(p)?;
+        let ssn = self.hosts.posts(p) + 1;
+        self.hosts.add_post(p, body);
+        Ok(ssn as u64)
+    }
+
+    fn check_pair(&self, p: u8, s: u8) -> Result<(), Refusal>
+        ensures { λ r. ⌜ r ≡ checked (pair-checks (look W·Workload (now (self .entry) .hosts)) p s) ⌝ }
+    {
+        let n = self.hosts.n();
+        if p >= n {
+            return Err(Refusal::NoSuchHost);
+        }
+        if s != OUTSIDE && (s >= n || s == p) {
+            return Err(Refusal::NoSuchSender);
+        }
+        Ok(())
+    }
+
+    /// Host p takes the next message from s. Answers its ssn.
+    pub fn deliver(&mut self, p: u8, s: u8) -> Result<u64, Refusal>
+        ensures { λ r. ⌜ delivering (look W·Workload (now (self .entry) .hosts)) p s ≡ (r, look W·Workload (now (self .exit) .hosts)) ⌝ }
+    {
+        self.check_pair(p, s)?;
+        let message = self.hosts.waiting(p, s).ok_or(Refusal::NothingWaits)?;
+        if self.hosts.receipts(p) >= 64 {
+            return Err(Refusal::ReceiptsFull);
+        }
+        self.hosts.take(p, message);
+        Ok(message.ssn as u64)
+    }
+
+    /// The number that stands for the state of host p.
+    pub fn show(&self, p: u8) -> Result<u64, Refusal>
+        ensures { λ r. ⌜ r ≡ showing (look W·Workload (now (self .entry) .hosts)) p ⌝ }
+    {
+        if p >= self.hosts.n() {
+            return Err(Refusal::NoSuchHost);
+        }
+        Ok(self.hosts.show(p))
+    }
+}
