@@ -4,3 +4,5 @@ pub mod Host
 pub mod Network
 pub mod View
 pub mod Run
+pub mod Past
+pub mod World

@@ -9,10 +9,11 @@ use Rattle.hosts.proofs.Views.{read-at, edited-at}
 use Rattle.hosts.proofs.by_host.ByHost.push.Needs as need
 
 pub push-requires : need.push-requires
-push-requires c κs =
-    (lit< tt,
-    subst (λ (xs : List ℕ). length xs < 64)
-    (read-at listed [] (c .args .self .now .lists) (c .args .p) (search needs) (c .index-all-p .result) (c .index-all-p .is) ∙ ap listed (c .index-all-p .is)) (c .pre .1))
+push-requires c κs = (
+  lit< tt,
+  subst (λ (xs : List ℕ). length xs < 64)
+      (read-at listed [] (c .args .self .now .lists) (c .args .p) (search needs) (c .index-all-p .result) (c .index-all-p .is) ∙ ap listed (c .index-all-p .is)) (c .pre .1),
+)
 
 pub returns : need.returns
 returns c =

@@ -15,7 +15,7 @@ loop-receipt-again c =
     let i = c .loop-receipt .receipt-index in
     let s = c .args .s in
     let here : count-from s (drop i xs) ≡ cond (eqb (getD xs i (record { sender = 0; ssn = 0 }) .sender) s) (suc (count-from s (drop (i + 1) xs))) (count-from s (drop (i + 1) xs)) =
-        at-drop-more (count-from s) xs i (record { sender = 0; ssn = 0 }) (omega arith) in
+    at-drop-more (count-from s) xs i (record { sender = 0; ssn = 0 }) (omega arith) in
     elim (c .if-receipt-s .came) [
       | then-receipt-s w ↦ grind arith
       | else-receipt-s w ↦ grind arith

@@ -21,8 +21,8 @@ loop-send-again c =
     let l = c .loop-send-test .taken in
     elim (c .if-destination-p .came) [
       | then-destination-p·else-before-eq0 w ↦
-        (let less : c .loop-send .before ≡ suc (c .if-destination-p .before) = omega (arith, w .before-is) in
-        sym (passed-here p xs i l (c .if-destination-p .before) (w .if-destination-p .taken)) ∙ (rw less at (c .loop-send .inv)))
+          (let less : c .loop-send .before ≡ suc (c .if-destination-p .before) = omega (arith, w .before-is) in
+          sym (passed-here p xs i l (c .if-destination-p .before) (w .if-destination-p .taken)) ∙ (rw less at (c .loop-send .inv)))
       | else-destination-p w ↦ rw (w .before-is) (sym (not-here p xs i l (c .loop-send .before) (w .if-destination-p .left)) ∙ c .loop-send .inv)
     ]
 

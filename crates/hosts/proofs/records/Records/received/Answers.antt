@@ -8,6 +8,6 @@ use Rattle.hosts.proofs.records.Records.received.Needs as need
 pub returns : need.returns
 returns c = record {
   value = c .received-from .ensures .value
-  ∙ ap (λ (l : Lists). count-from (c .args .s) (l .receipts)) (sym (read-at lists no-lists (c .args .self .now .records) (c .args .p) (search needs) (c .index-all-p .result) (c .index-all-p .is)));
+      ∙ ap (λ (l : Lists). count-from (c .args .s) (l .receipts)) (sym (read-at lists no-lists (c .args .self .now .records) (c .args .p) (search needs) (c .index-all-p .result) (c .index-all-p .is)));
   few = c .received-from .ensures .few;
 }
