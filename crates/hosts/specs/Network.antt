@@ -90,6 +90,10 @@ module _ {S : Type 0} (v : Network S) where
   abbrev pub showing : ℕ → Result ℕ Refusal
   showing p = unless-refused (checked ((ltb p (v .n), NoSuchHost) ∷ [])) v (Ok (v .machine .shown (v .hosts p .state)), v) .0
 
+  -- The output at place i, from 0, of host p.
+  abbrev pub output-at : ℕ → ℕ → Option ℕ
+  output-at p i = cond (ltb p (v .n)) (nth (v .hosts p .outputs) i) None
+
 -- n hosts that have taken nothing
 abbrev pub started : {S : Type 0} → Machine S → ℕ → Network S
 started m n = record { n = n; machine = m; hosts = λ h. fresh m h; posts = λ h. []; released = λ h. [] }

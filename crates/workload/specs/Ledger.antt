@@ -28,9 +28,12 @@ order-in from-outside b =
     (if-kind (b .kind) (Credit (b .low)) (if-kind (b .kind) (Transfer (b .target) (b .low)) (if-kind (b .kind) Statement None)))
     (if-kind (b .kind) (Arrival (b .low)) None)
 
--- the body of an arrival: its kind and the amount, all other bytes 0
-abbrev pub arrival-body : ℕ → ℕ
-arrival-body a = kind (Arrival a) * 2 ^ 56 + a
+-- the body of an order: its kind, its target and its amount, all other bytes 0
+abbrev pub body-of : Order → ℕ
+body-of (Credit a) = kind (Credit a) * 2 ^ 56 + a
+body-of (Transfer t a) = kind (Transfer t a) * 2 ^ 56 + t * 2 ^ 32 + a
+body-of (Arrival a) = kind (Arrival a) * 2 ^ 56 + a
+body-of Statement = kind Statement * 2 ^ 56
 
 abbrev pub credited : ℕ → ℕ → ℕ
 credited x a = (x + a) % 2 ^ 64
@@ -44,7 +47,7 @@ abbrev pub settled : ℕ → ℕ → ℕ → Option Order → Step ℕ
 settled n p x None = silently x
 settled n p x (Some (Credit a)) = silently (credited x a)
 settled n p x (Some (Transfer t a)) =
-    cond (may-transfer n p x t a) (record { state = x - a; reaction = record { send = Some (t, arrival-body a); output = None } }) (silently x)
+    cond (may-transfer n p x t a) (record { state = x - a; reaction = record { send = Some (t, body-of (Arrival a)); output = None } }) (silently x)
 settled n p x (Some (Arrival a)) = silently (credited x a)
 settled n p x (Some Statement) = record { state = x; reaction = record { send = None; output = Some x } }
 

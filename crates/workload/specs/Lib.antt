@@ -2,3 +2,4 @@ pub mod Machine
 pub mod Body
 pub mod Ledger
 pub mod Spacing
+pub mod Sums

@@ -30,6 +30,10 @@ mark-in b =
     when (eqb (b .kind) (kind (Width (ofBits binary32 (b .low)))) && leb (b .low) widest) (Width (ofBits binary32 (b .low)))
     (when (eqb (b .kind) (kind Bar)) Bar None)
 
+-- the body of a width, by the bits of its float
+abbrev pub width-body : ℕ → ℕ
+width-body bits = kind (Width (ofBits binary32 bits)) * 2 ^ 56 + bits
+
 -- a float that is finite and not negative, by its bits
 abbrev pub Finite-nonnegative : Float → Type 0
 Finite-nonnegative x = toBits binary32 x ≤ 0x7f7f_ffff

@@ -60,7 +60,7 @@ fn transfer(n: u8, p: u8, balance: u64, to: u8, amount: u32) -> (u64, Reaction)
     let amount_64 = amount as u64;
     if to < n && to != p && amount >= 1 && amount_64 <= balance {
         let reaction = Reaction {
-            send: Some((to, Order::arrival_body(amount))),
+            send: Some((to, Order::Arrival(amount).body())),
             output: None,
         };
         (balance - amount_64, reaction)

@@ -12,7 +12,8 @@ use table::Table;
 pub mod mark;
 mod moves;
 pub mod placement;
-pub mod table;
+pub mod sums;
+mod table;
 
 /// The spacing of music: a position and a greatest width for each host.
 #[derive(Drop)]

@@ -1,8 +1,6 @@
 ghost use mathlib.Core.Path.{_≡_};
-ghost use Prim.Native.Nat.{_≤_, _<_};
-ghost use Rattle.std.specs.Finite.{nth};
 ghost use Rattle.hosts.specs.Checks.{checked};
-ghost use Rattle.hosts.specs.Network.{Network, unstarted, post-checks, pair-checks, posting, delivering, starting, showing};
+ghost use Rattle.hosts.specs.Network.{unstarted, post-checks, pair-checks, posting, delivering, starting, showing, output-at};
 ghost use Rattle.hosts.specs.View.{look};
 use super::CrashFree;
 use crate::hosts::Hosts;
@@ -87,5 +85,15 @@ impl<W: Workload> CrashFree<W> {
             return Err(Refusal::NoSuchHost);
         }
         Ok(self.hosts.show(p))
+    }
+
+    /// The output at place i, from 0, of host p, if there is one.
+    pub fn output(&self, p: u8, i: u8) -> Option<u64>
+        ensures { λ r. ⌜ r ≡ output-at (look W·Workload (now (self .entry) .hosts)) p i ⌝ }
+    {
+        if p >= self.hosts.n() {
+            return None;
+        }
+        self.hosts.output(p, i)
     }
 }

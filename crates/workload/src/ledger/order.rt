@@ -1,5 +1,5 @@
 ghost use mathlib.Core.Path.{_≡_};
-ghost use Rattle.workload.specs.Ledger.{order-in, arrival-body};
+ghost use Rattle.workload.specs.Ledger.{order-in, kind, body-of};
 use crate::fields::Fields;
 
 /// What a message asks of the ledger.
@@ -29,10 +29,27 @@ impl Order {
         }
     }
 
-    /// The body of the message that brings `amount` licences.
-    pub fn arrival_body(amount: u32) -> u64
-        ensures { λ r. ⌜ r ≡ arrival-body amount ⌝ }
+    /// The kind byte.
+    pub fn kind(self) -> u8
+        ensures { λ r. ⌜ r ≡ kind self ⌝ }
     {
-        3 * 0x100_0000_0000_0000 + amount as u64
+        match self {
+            Order::Credit(_) => 1,
+            Order::Transfer(_, _) => 2,
+            Order::Arrival(_) => 3,
+            Order::Statement => 4,
+        }
+    }
+
+    /// The body of the message that gives this order.
+    pub fn body(self) -> u64
+        ensures { λ r. ⌜ r ≡ body-of self ⌝ }
+    {
+        let high = self.kind() as u64 * 0x100_0000_0000_0000;
+        match self {
+            Order::Credit(amount) | Order::Arrival(amount) => high + amount as u64,
+            Order::Transfer(to, amount) => high + to as u64 * 0x1_0000_0000 + amount as u64,
+            Order::Statement => high,
+        }
     }
 }

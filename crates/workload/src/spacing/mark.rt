@@ -1,5 +1,5 @@
 ghost use mathlib.Core.Path.{_≡_};
-ghost use Rattle.workload.specs.Spacing.{mark-in, Taken-width};
+ghost use Rattle.workload.specs.Spacing.{mark-in, width-body, Taken-width};
 use crate::fields::Fields;
 
 /// The widest width that is taken, by the bits of its float: 4,096.0.
@@ -15,6 +15,16 @@ pub enum Mark {
 }
 
 impl Mark {
+    /// The body of a barline.
+    pub const BAR: u64 = 0x200_0000_0000_0000;
+
+    /// The body of a width, by the bits of its float.
+    pub fn width(bits: u32) -> u64
+        ensures { λ r. ⌜ r ≡ width-body bits ⌝ }
+    {
+        0x100_0000_0000_0000 + bits as u64
+    }
+
     /// The mark in a body, if it is one that is taken.
     pub fn read(body: Fields) -> Option<Mark>
         ensures value { λ r. ⌜ r ≡ mark-in body ⌝ }
