@@ -60,7 +60,10 @@ fn print_placement(rt: &LibcRuntime, shown: u64) -> io::Result<()> {
 }
 
 fn space_line(rt: &LibcRuntime) -> io::Result<()> {
-    println!(rt, "Three hosts space a line of music; each passes a mark on to the next.")?;
+    println!(
+        rt,
+        "Three hosts space a line of music; each passes a mark on to the next."
+    )?;
     let mut run = CrashFree::new(Spacing::new());
     if run.start(3).is_err() {
         return Ok(());
@@ -80,14 +83,11 @@ fn space_line(rt: &LibcRuntime) -> io::Result<()> {
 fn place_three(run: &mut CrashFree<Spacing>, widths: [u32; 3]) -> Result<u64, Refusal> {
     let [a, b, c] = widths;
     let mut posts = [new_post(a), new_post(b), new_post(c)];
-    let mut deliveries = [
-        Delivery {
-            host: 0,
-            sender: OUTSIDE,
-            answer: Ok(0),
-        };
-        3
-    ];
+    let mut deliveries = [Delivery {
+        host: 0,
+        sender: OUTSIDE,
+        answer: Ok(0),
+    }; 3];
     run.run(3, &mut posts, &mut deliveries)?;
     run.show(0)
 }
@@ -114,7 +114,10 @@ fn compare_orders(rt: &LibcRuntime) -> io::Result<()> {
 }
 
 fn move_licences(rt: &LibcRuntime) -> io::Result<()> {
-    println!(rt, "Host 0 is credited 100 licences, and hands 30 to host 1.")?;
+    println!(
+        rt,
+        "Host 0 is credited 100 licences, and hands 30 to host 1."
+    )?;
     let mut run = CrashFree::new(Ledger::new());
     if run.start(2).is_err() {
         return Ok(());

@@ -2,7 +2,8 @@ ghost use Prim.Native.Nat.{_≤_};
 use crate::outside::Outside;
 use crate::records::Records;
 
-mod messages;
+mod reads;
+mod writes;
 
 /// n hosts: what each one has, the outside world's side of their messages, and the workload that says what they do.
 #[derive(Drop)]

@@ -1,7 +1,9 @@
 -- The licence ledger: each host keeps a balance of licences.
 use mathlib.Core.Bool.{Bool, cond, not, _&&_}
+use mathlib.Core.List.{List}
 use Prim.Native.Nat.{ℕ, _+_, _-_, _*_, _%_, _^_}
 use lib.Dec.{eqb, leb, ltb}
+use lib.ListN.{getD}
 use Rattle.std.specs.declared.option.Option.{Option}
 use Rattle.std.specs.declared.option.Option.the-variants.{Some, None}
 use Rattle.workload.specs.declared.fields.Fields.{Fields}
@@ -50,6 +52,10 @@ settled n p x (Some (Transfer t a)) =
     cond (may-transfer n p x t a) (record { state = x - a; reaction = record { send = Some (t, body-of (Arrival a)); output = None } }) (silently x)
 settled n p x (Some (Arrival a)) = silently (credited x a)
 settled n p x (Some Statement) = record { state = x; reaction = record { send = None; output = Some x } }
+
+-- the balance of each host in a table
+abbrev pub balance-at : List ℕ → ℕ → ℕ
+balance-at xs h = getD xs h 0
 
 -- The ledger of n hosts: a balance is first 0, and is shown as it is.
 abbrev pub ledger : ℕ → Machine ℕ

@@ -54,6 +54,10 @@ Taken-width (Some Bar) = Unit {0}
 abbrev pub at-margin : Placement
 at-margin = record { position = ofBits binary32 0; greatest = ofBits binary32 0 }
 
+-- the record of each host in a table
+abbrev pub placement-at : List Placement → ℕ → Placement
+placement-at xs h = getD xs h at-margin
+
 abbrev pub larger : Float → Float → Float
 larger x w = cond (le w x) x w
 

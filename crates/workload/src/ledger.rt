@@ -1,8 +1,10 @@
 ghost use mathlib.Core.Path.{_≡_};
-ghost use lib.ListN.{getD, replicate};
+ghost use Prim.Native.Nat.{_<_};
+ghost use lib.ListN.{replicate};
 ghost use Rattle.std.specs.declared.option.Option.the-variants.{Some};
 ghost use Rattle.workload.specs.declared.ledger.order.Order.the-variants.{Transfer};
-ghost use Rattle.workload.specs.Ledger.{ledger, settled};
+ghost use Rattle.workload.specs.Ledger.{balance-at, ledger, settled};
+ghost use Rattle.workload.specs.Machine.{replaced};
 use crate::OUTSIDE;
 use crate::Workload;
 use crate::fields::Fields;
@@ -28,6 +30,15 @@ impl Ledger {
             n: 0,
             balances: [0; 8],
         }
+    }
+
+    /// Host p has this balance now.
+    fn set(&mut self, p: u8, balance: u64)
+        requires { ⌜ p < 8 ⌝ }
+        ensures hosts { λ _. ⌜ now (self .exit) .n ≡ now (self .entry) .n ⌝ }
+        ensures balances { λ _. ⌜ balance-at (now (self .exit) .balances) ≡ replaced (balance-at (now (self .entry) .balances)) p balance ⌝ }
+    {
+        self.balances[p as usize] = balance;
     }
 }
 
@@ -74,7 +85,7 @@ pub impl Workload for Ledger as LedgerWorkload {
 
     ghost hosts = { λ w. w .n };
 
-    ghost state = { λ w h. getD (w .balances) h 0 };
+    ghost state = { λ w. balance-at (w .balances) };
 
     ghost machine = { ledger };
 
@@ -84,17 +95,18 @@ pub impl Workload for Ledger as LedgerWorkload {
     }
 
     fn reset(&mut self, p: u8) {
-        self.balances[p as usize] = 0;
+        self.set(p, 0);
     }
 
     fn step(&mut self, p: u8, s: u8, body: u64) -> Reaction {
         let order = Order::read(s == OUTSIDE, Fields::of(body));
         let (balance, reaction) = settle(self.n, p, self.balances[p as usize], order);
-        self.balances[p as usize] = balance;
+        self.set(p, balance);
         reaction
     }
 
     fn show(&self, p: u8) -> u64 {
-        self.balances[p as usize]
+        let host = p as usize;
+        self.balances[host]
     }
 }

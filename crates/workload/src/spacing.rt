@@ -1,7 +1,7 @@
 ghost use mathlib.Core.Path.{_≡_};
 ghost use Prim.Native.Nat.{_<_};
-ghost use lib.ListN.{getD, replicate};
-ghost use Rattle.workload.specs.Spacing.{spacing, at-margin, onward, barline-output, reacted};
+ghost use lib.ListN.{replicate};
+ghost use Rattle.workload.specs.Spacing.{spacing, at-margin, placement-at, onward, barline-output, reacted};
 use crate::Workload;
 use crate::fields::Fields;
 use crate::reaction::Reaction;
@@ -49,19 +49,19 @@ impl Spacing {
     /// What host p puts out on a barline: its numbers, if it is the last.
     fn statement(&self, p: u8) -> Option<u64>
         requires { ⌜ p < 8 ⌝ }
-        ensures { λ r. ⌜ r ≡ barline-output (now (self .entry) .n) p (getD (now (self .entry) .table .hosts) p at-margin) ⌝ }
+        ensures { λ r. ⌜ r ≡ barline-output (now (self .entry) .n) p (placement-at (now (self .entry) .table .hosts) p) ⌝ }
     {
         if p + 1 < self.n {
             None
         } else {
-            Some(self.table.show(p))
+            Some(self.show(p))
         }
     }
 
     /// What host p sends and puts out when it takes a body with this mark.
     fn react(&self, p: u8, body: u64, mark: Option<Mark>) -> Reaction
         requires { ⌜ p < 8 ⌝ }
-        ensures { λ r. ⌜ r ≡ reacted (now (self .entry) .n) p (getD (now (self .entry) .table .hosts) p at-margin) body mark ⌝ }
+        ensures { λ r. ⌜ r ≡ reacted (now (self .entry) .n) p (placement-at (now (self .entry) .table .hosts) p) body mark ⌝ }
     {
         match mark {
             None => Reaction::NONE,
@@ -82,7 +82,7 @@ pub impl Workload for Spacing as SpacingWorkload {
 
     ghost hosts = { λ w. w .n };
 
-    ghost state = { λ w h. getD (w .table .hosts) h at-margin };
+    ghost state = { λ w. placement-at (w .table .hosts) };
 
     ghost machine = { spacing };
 

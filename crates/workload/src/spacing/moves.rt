@@ -1,7 +1,8 @@
 ghost use mathlib.Core.Path.{_≡_};
 ghost use Prim.Native.Nat.{_<_};
-ghost use lib.ListN.{getD, set, replicate};
-ghost use Rattle.workload.specs.Spacing.{Steady, Taken-width, at-margin, placed, both-bits};
+ghost use lib.ListN.{replicate};
+ghost use Rattle.workload.specs.Machine.{replaced};
+ghost use Rattle.workload.specs.Spacing.{Steady, Taken-width, at-margin, placement-at, widened, placed, both-bits};
 use super::mark::Mark;
 use super::placement::Placement;
 use super::table::Table;
@@ -17,6 +18,15 @@ impl Placement {
         }
     }
 
+    /// The record after a width.
+    fn widen(self, w: f32) -> Placement
+        ensures { λ r. ⌜ r ≡ widened self w ⌝ }
+    {
+        let position = self.position + w;
+        let greatest = if w <= self.greatest { self.greatest } else { w };
+        Placement { position, greatest }
+    }
+
     /// The record after a mark.
     fn place(self, mark: Option<Mark>) -> Placement
         requires { ⌜ Steady self ⌝ ∗ ⌜ Taken-width mark ⌝ }
@@ -24,12 +34,8 @@ impl Placement {
         ensures steady { λ r. ⌜ Steady r ⌝ }
     {
         match mark {
-            Some(Mark::Width(w)) => {
-                let position = self.position + w;
-                let greatest = if w <= self.greatest { self.greatest } else { w };
-                Placement { position, greatest }
-            }
-            _ => self,
+            Some(Mark::Width(w)) => self.widen(w),
+            Some(Mark::Bar) | None => self,
         }
     }
 
@@ -56,7 +62,7 @@ impl Table {
     /// Host p is at the margin again.
     pub fn reset(&mut self, p: u8)
         requires { ⌜ p < 8 ⌝ }
-        ensures { λ _. ⌜ now (self .exit) .hosts ≡ set (now (self .entry) .hosts) p at-margin ⌝ }
+        ensures { λ _. ⌜ placement-at (now (self .exit) .hosts) ≡ replaced (placement-at (now (self .entry) .hosts)) p at-margin ⌝ }
     {
         self.hosts[p as usize] = Placement::new();
     }
@@ -64,7 +70,7 @@ impl Table {
     /// Host p takes a mark.
     pub fn place(&mut self, p: u8, mark: Option<Mark>)
         requires { ⌜ p < 8 ⌝ ∗ ⌜ Taken-width mark ⌝ }
-        ensures { λ _. ⌜ now (self .exit) .hosts ≡ set (now (self .entry) .hosts) p (placed (getD (now (self .entry) .hosts) p at-margin) mark) ⌝ }
+        ensures { λ _. ⌜ placement-at (now (self .exit) .hosts) ≡ replaced (placement-at (now (self .entry) .hosts)) p (placed (placement-at (now (self .entry) .hosts) p) mark) ⌝ }
     {
         let old = self.hosts[p as usize];
         self.hosts[p as usize] = old.place(mark);
@@ -73,7 +79,7 @@ impl Table {
     /// The number that stands for host p.
     pub fn show(&self, p: u8) -> u64
         requires { ⌜ p < 8 ⌝ }
-        ensures { λ r. ⌜ r ≡ both-bits (getD (now (self .entry) .hosts) p at-margin) ⌝ }
+        ensures { λ r. ⌜ r ≡ both-bits (placement-at (now (self .entry) .hosts) p) ⌝ }
     {
         self.hosts[p as usize].bits()
     }

@@ -1,9 +1,11 @@
 use borrow.Author.Needs.{needs}
-use Rattle.workload.proofs.Floats.{sum-finite}
+use mathlib.Core.Path.{sym, subst}
+use Rattle.workload.specs.Spacing.{Steady}
+use Rattle.workload.proofs.Steady.{widened-steady}
 use Rattle.workload.proofs.spacing.placement.Placement.place.Needs as need
 
-pub returns-then-w-self : need.returns-then-w-self
-returns-then-w-self c = search (needs, sum-finite)
-
-pub returns-else-w-self : need.returns-else-w-self
-returns-else-w-self c = search (needs, sum-finite)
+pub returns-in-Some-Width : need.returns-in-Some-Width
+returns-in-Some-Width c = record {
+  value = search needs;
+  steady = subst Steady (sym (c .widen .ensures)) (widened-steady (c .args .self) (c .in-Some-Width .w) (search needs) (search needs) (c .pre .0) (search needs));
+}
