@@ -60,27 +60,34 @@ module _ {S : Type 0} (v : Network S) where
   abbrev pub with-post : ℕ → ℕ → Network S
   with-post p b = record { n = v .n; machine = v .machine; hosts = v .hosts; posts = replaced (v .posts) p (v .posts p ++ (b ∷ [])); released = v .released }
 
+  abbrev pub with-released : ℕ → ℕ → Network S
+  with-released p x = record { n = v .n; machine = v .machine; hosts = v .hosts; posts = v .posts; released = replaced (v .released) p (v .released p ++ (x ∷ [])) }
+
   -- p takes this message, if there is one
   abbrev pub takes : ℕ → Option Message → Network S
   takes p None = v
   takes p (Some t) = with-host p (taking (v .machine) p (v .hosts p) t)
 
-  abbrev pub post-checks : ℕ → List (Bool × Refusal)
-  post-checks p = (ltb p (v .n), NoSuchHost) ∷ (ltb (length (v .posts p)) 64, PostsFull) ∷ []
+  -- Checks: each a test, with the refusal where it fails.
+  abbrev pub host-check : ℕ → Bool × Refusal
+  host-check p = (ltb p (v .n), NoSuchHost)
+
+  abbrev pub post-check : ℕ → Bool × Refusal
+  post-check p = (ltb (length (v .posts p)) 64, PostsFull)
 
   abbrev pub is-sender : ℕ → ℕ → Bool
   is-sender p s = eqb s outside || (ltb s (v .n) && not (eqb s p))
 
   -- a receiver and a sender that may be named together
   abbrev pub pair-checks : ℕ → ℕ → List (Bool × Refusal)
-  pair-checks p s = (ltb p (v .n), NoSuchHost) ∷ (is-sender p s, NoSuchSender) ∷ []
+  pair-checks p s = host-check p ∷ (is-sender p s, NoSuchSender) ∷ []
 
   abbrev pub message-checks : ℕ → ℕ → List (Bool × Refusal)
   message-checks p s = (isSome (waiting p s), NothingWaits) ∷ (ltb (length (v .hosts p .receipts)) 64, ReceiptsFull) ∷ []
 
   -- The outside world posts b to p: the ssn, and the network then.
   abbrev pub posting : ℕ → ℕ → Result ℕ Refusal × Network S
-  posting p b = unless-refused (checked (post-checks p)) v (Ok (length (v .posts p) + 1), with-post p b)
+  posting p b = unless-refused (checked (host-check p ∷ post-check p ∷ [])) v (Ok (length (v .posts p) + 1), with-post p b)
 
   -- Host p takes the next message from s: its ssn, and the network then.
   abbrev pub delivering : ℕ → ℕ → Result ℕ Refusal × Network S
@@ -88,7 +95,7 @@ module _ {S : Type 0} (v : Network S) where
 
   -- What is shown of host p.
   abbrev pub showing : ℕ → Result ℕ Refusal
-  showing p = unless-refused (checked ((ltb p (v .n), NoSuchHost) ∷ [])) v (Ok (v .machine .shown (v .hosts p .state)), v) .0
+  showing p = unless-refused (checked (host-check p ∷ [])) v (Ok (v .machine .shown (v .hosts p .state)), v) .0
 
   -- The output at place i, from 0, of host p.
   abbrev pub output-at : ℕ → ℕ → Option ℕ
@@ -102,6 +109,9 @@ started m n = record { n = n; machine = m; hosts = λ h. fresh m h; posts = λ h
 abbrev pub unstarted : {S : Type 0} → Machine S → (ℕ → S) → Network S
 unstarted m state = record { n = 0; machine = m; hosts = λ h. record { state = state h; receipts = []; sends = []; outputs = [] }; posts = λ h. []; released = λ h. [] }
 
+abbrev pub count-check : ℕ → Bool × Refusal
+count-check n = (leb 2 n && leb n 8, HostCount)
+
 -- A start with n hosts, on a run that may have been used before.
 abbrev pub starting : {W S : Type 0} → workload.Ghosts W S → Network S → ℕ → Result ℕ Refusal × Network S
-starting work v n = unless-refused (checked ((leb 2 n && leb n 8, HostCount) ∷ [])) v (Ok 0, started (work .machine n) n)
+starting work v n = unless-refused (checked (count-check n ∷ [])) v (Ok 0, started (work .machine n) n)

@@ -1,6 +1,7 @@
 ghost use mathlib.Core.Path.{_≡_};
+ghost use mathlib.Core.List.{[], _∷_};
 ghost use Rattle.hosts.specs.Checks.{checked};
-ghost use Rattle.hosts.specs.Network.{unstarted, post-checks, pair-checks, posting, delivering, starting, showing, output-at};
+ghost use Rattle.hosts.specs.Network.{unstarted, host-check, post-check, pair-checks, posting, delivering, starting, showing, output-at};
 ghost use Rattle.hosts.specs.View.{look};
 use super::CrashFree;
 use crate::hosts::Hosts;
@@ -30,7 +31,7 @@ impl<W: Workload> CrashFree<W> {
     }
 
     fn check_post(&self, p: u8) -> Result<(), Refusal>
-        ensures { λ r. ⌜ r ≡ checked (post-checks (look W·Workload (now (self .entry) .hosts)) p) ⌝ }
+        ensures { λ r. ⌜ r ≡ checked (host-check (look W·Workload (now (self .entry) .hosts)) p ∷ post-check (look W·Workload (now (self .entry) .hosts)) p ∷ []) ⌝ }
     {
         if p >= self.hosts.n() {
             return Err(Refusal::NoSuchHost);
