@@ -32,6 +32,14 @@ module _ {S : Type 0} where
       go h true = refl
       go h false = refl
 
+  -- a host replaced, whatever the machine is called
+  pub replaced-is :
+      (n : ℕ) (m m′ : Machine S) (x x′ : ℕ → S) (l l′ : ℕ → Lists) (a b : ℕ → List ℕ) (p : ℕ) (y : S) (k : Lists) → m′ ≡ m → x′ ≡ replaced x p y → l′ ≡ replaced l p k
+      → assembled n m′ x′ l′ a b ≡ with-host (assembled n m x l a b) p (host-of y k)
+  replaced-is n m m′ x x′ l l′ a b p y k em ex el =
+      assembled-is n m′ m x′ (replaced x p y) l′ (replaced l p k) a a b b em ex el refl refl
+      ∙ ap (λ (hosts : ℕ → Host S). network-of n m hosts a b) (host-replaced x l p y k)
+
   -- p took t, with the reaction r
   pub taken-is :
       (n : ℕ) (m m′ : Machine S) (x x′ : ℕ → S) (l l′ : ℕ → Lists) (a b : ℕ → List ℕ) (p : ℕ) (t : Message) (r : Reaction) → m′ ≡ m
@@ -41,6 +49,5 @@ module _ {S : Type 0} where
       → assembled n m′ x′ l′ a b ≡ with-host (assembled n m x l a b) p (taking m p (host-of (x p) (l p)) t)
   taken-is n m m′ x x′ l l′ a b p t r em ex el er =
       let did = m .rule p (x p) (t .sender) (t .body) in
-      let same : l′ ≡ replaced l p (with-taken (l p) t (did .reaction)) = el ∙ ap (λ (r : Reaction). replaced l p (with-taken (l p) t r)) er in
-      assembled-is n m′ m x′ (replaced x p (did .state)) l′ (replaced l p (with-taken (l p) t (did .reaction))) a a b b em ex same refl refl
-      ∙ ap (λ (hosts : ℕ → Host S). network-of n m hosts a b) (host-replaced x l p (did .state) (with-taken (l p) t (did .reaction)))
+      replaced-is n m m′ x x′ l l′ a b p (did .state) (with-taken (l p) t (did .reaction)) em ex
+      (el ∙ ap (λ (r : Reaction). replaced l p (with-taken (l p) t r)) er)

@@ -33,6 +33,13 @@ impl<T: Copy> Bounded<T> {
         }
     }
 
+    /// Empties the list.
+    pub fn clear(&mut self)
+        ensures { λ _. ⌜ listed (now (self .exit)) ≡ [] ⌝ }
+    {
+        self.count = 0;
+    }
+
     /// Adds an item at the end.
     pub fn push(&mut self, x: T)
         requires { ⌜ length (listed (now self)) < 64 ⌝ }

@@ -32,6 +32,14 @@ impl<W: Workload> Hosts<W> {
         self.outside.posts.len(p)
     }
 
+    /// How many outputs host p has released.
+    pub fn released(&self, p: u8) -> u8
+        requires { ⌜ p < 8 ⌝ }
+        ensures { λ r. ⌜ r ≡ length (look W·Workload (now (self .entry)) .released p) ⌝ }
+    {
+        self.outside.released.len(p)
+    }
+
     /// The output at place i, from 0, of host p.
     pub fn output(&self, p: u8, i: u8) -> Option<u64>
         requires { ⌜ p < 8 ⌝ }

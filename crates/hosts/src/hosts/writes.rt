@@ -1,8 +1,8 @@
 ghost use mathlib.Core.Path.{_≡_};
 ghost use Prim.Native.Nat.{_<_, _≤_};
 ghost use lib.ListN.{length};
-ghost use Rattle.hosts.specs.Host.{taking};
-ghost use Rattle.hosts.specs.Network.{started, unstarted, with-post, with-host};
+ghost use Rattle.hosts.specs.Host.{fresh, taking};
+ghost use Rattle.hosts.specs.Network.{started, unstarted, with-post, with-released, with-host};
 ghost use Rattle.hosts.specs.View.{look};
 use super::Hosts;
 use crate::by_host::ByHost;
@@ -56,5 +56,22 @@ impl<W: Workload> Hosts<W> {
     {
         let reaction = self.workload.step(p, message.sender, message.body);
         self.records.grow(p, message, reaction);
+    }
+
+    /// Host p hands an output to the outside world.
+    pub fn release(&mut self, p: u8, output: u64)
+        requires { ⌜ p < 8 ⌝ ∗ ⌜ length (look W·Workload (now self) .released p) < 64 ⌝ }
+        ensures { λ _. ⌜ look W·Workload (now (self .exit)) ≡ with-released (look W·Workload (now (self .entry))) p output ⌝ }
+    {
+        self.outside.released.push(p, output);
+    }
+
+    /// Host p loses its state, receipts, sends and outputs, and is as if it had taken nothing.
+    pub fn reset(&mut self, p: u8)
+        requires { ⌜ p < 8 ⌝ }
+        ensures { λ _. ⌜ look W·Workload (now (self .exit)) ≡ with-host (look W·Workload (now (self .entry))) p (fresh (look W·Workload (now (self .entry)) .machine) p) ⌝ }
+    {
+        self.workload.reset(p);
+        self.records.clear(p);
     }
 }

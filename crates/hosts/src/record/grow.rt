@@ -4,7 +4,7 @@ ghost use lib.ListN.{length};
 ghost use Rattle.std.specs.Finite.{nth};
 ghost use Rattle.hosts.specs.Bounded.{listed};
 ghost use Rattle.hosts.specs.Network.{count-from, bodies-to};
-ghost use Rattle.hosts.specs.View.{lists, with-taken};
+ghost use Rattle.hosts.specs.View.{lists, no-lists, with-taken};
 use super::HostRecord;
 use crate::message::Message;
 use crate::message::Receipt;
@@ -36,6 +36,15 @@ impl HostRecord {
         });
         self.sends.push_some(reaction.send);
         self.outputs.push_some(reaction.output);
+    }
+
+    /// The host loses all of it.
+    pub fn clear(&mut self)
+        ensures { λ _. ⌜ lists (now (self .exit)) ≡ no-lists ⌝ }
+    {
+        self.receipts.clear();
+        self.sends.clear();
+        self.outputs.clear();
     }
 
     /// How many messages it has received from s.

@@ -71,4 +71,15 @@ impl Records {
         let one = &mut all[p as usize];
         one.grow(message, reaction);
     }
+
+    /// Host p loses what it had.
+    pub fn clear(&mut self, p: u8)
+        requires { ⌜ p < 8 ⌝ }
+        ensures { λ _. ⌜ lists-of (now (self .exit)) ≡ replaced (lists-of (now (self .entry))) p no-lists ⌝ }
+    {
+        let records = &mut self.records;
+        let all = &mut records[..];
+        let one = &mut all[p as usize];
+        one.clear();
+    }
 }
