@@ -6,3 +6,5 @@ pub mod View
 pub mod Run
 pub mod Past
 pub mod World
+pub mod Theorems
+pub mod Relay

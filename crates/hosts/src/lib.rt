@@ -9,3 +9,4 @@ mod outside;
 mod record;
 mod records;
 pub mod refusal;
+pub mod theory;

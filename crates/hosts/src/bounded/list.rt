@@ -1,8 +1,10 @@
 ghost use mathlib.Core.Path.{_≡_};
+ghost use mathlib.Core.Bool.{true};
 ghost use mathlib.Core.List.{[], _∷_, _++_};
 ghost use Prim.Native.Nat.{_+_, _<_, _≤_};
 ghost use lib.ListN.{length};
 ghost use Rattle.std.specs.Finite.{nth};
+ghost use Rattle.std.specs.Options.{isSome};
 ghost use Rattle.hosts.specs.Bounded.{listed, optional};
 use super::Bounded;
 
@@ -24,7 +26,8 @@ impl<T: Copy> Bounded<T> {
 
     /// The item at place i, from 0.
     pub fn get(&self, i: u8) -> Option<T>
-        ensures { λ r. ⌜ r ≡ nth (listed (now (self .entry))) i ⌝ }
+        ensures value { λ r. ⌜ r ≡ nth (listed (now (self .entry))) i ⌝ }
+        ensures few { λ r. ⌜ (isSome r ≡ true → i < 64) ⌝ }
     {
         if i < self.count {
             Some(self.items[i as usize])

@@ -1,7 +1,10 @@
 ghost use mathlib.Core.Path.{_≡_};
-ghost use Prim.Native.Nat.{_<_, _≤_};
+ghost use mathlib.Core.Bool.{true};
+ghost use Prim.Native.Nat.{_+_, _<_, _≤_};
+ghost use Rattle.std.specs.Slices.{found};
 ghost use lib.ListN.{length};
 ghost use Rattle.std.specs.Finite.{nth};
+ghost use Rattle.std.specs.Options.{isSome};
 ghost use Rattle.hosts.specs.Network.{waiting};
 ghost use Rattle.hosts.specs.View.{look};
 use super::Hosts;
@@ -43,7 +46,8 @@ impl<W: Workload> Hosts<W> {
     /// The output at place i, from 0, of host p.
     pub fn output(&self, p: u8, i: u8) -> Option<u64>
         requires { ⌜ p < 8 ⌝ }
-        ensures { λ r. ⌜ r ≡ nth (look W·Workload (now (self .entry)) .hosts p .outputs) i ⌝ }
+        ensures value { λ r. ⌜ r ≡ nth (look W·Workload (now (self .entry)) .hosts p .outputs) i ⌝ }
+        ensures few { λ r. ⌜ (isSome r ≡ true → i < 64) ⌝ }
     {
         self.records.output(p, i)
     }
@@ -51,7 +55,8 @@ impl<W: Workload> Hosts<W> {
     /// The message from s that waits at p.
     pub fn waiting(&self, p: u8, s: u8) -> Option<Message>
         requires { ⌜ p < 8 ⌝ ∗ ⌜ s ≤ 8 ⌝ }
-        ensures { λ r. ⌜ r ≡ waiting (look W·Workload (now (self .entry))) p s ⌝ }
+        ensures value { λ r. ⌜ r ≡ waiting (look W·Workload (now (self .entry))) p s ⌝ }
+        ensures ssn { λ r. ⌜ found r (λ t. (t .sender ≡ s) × (1 ≤ t .ssn) × (t .ssn ≤ length (look W·Workload (now (self .entry)) .hosts p .receipts) + 1)) ⌝ }
     {
         let received = self.records.received(p, s);
         let body = if s == OUTSIDE {

@@ -1,7 +1,9 @@
 ghost use mathlib.Core.Path.{_≡_};
+ghost use mathlib.Core.Bool.{true};
 ghost use Prim.Native.Nat.{_<_, _≤_};
 ghost use lib.ListN.{length};
 ghost use Rattle.std.specs.Finite.{nth};
+ghost use Rattle.std.specs.Options.{isSome};
 ghost use Rattle.hosts.specs.Bounded.{listed};
 ghost use Rattle.hosts.specs.Network.{count-from, bodies-to};
 ghost use Rattle.hosts.specs.View.{lists, no-lists, with-taken};
@@ -20,7 +22,8 @@ impl HostRecord {
 
     /// The output at place i, from 0.
     pub fn output(&self, i: u8) -> Option<u64>
-        ensures { λ r. ⌜ r ≡ nth (lists (now (self .entry)) .outputs) i ⌝ }
+        ensures value { λ r. ⌜ r ≡ nth (lists (now (self .entry)) .outputs) i ⌝ }
+        ensures few { λ r. ⌜ (isSome r ≡ true → i < 64) ⌝ }
     {
         self.outputs.get(i)
     }
@@ -51,6 +54,7 @@ impl HostRecord {
     pub fn received_from(&self, s: u8) -> u8
         ensures value { λ r. ⌜ r ≡ count-from s (lists (now (self .entry)) .receipts) ⌝ }
         ensures few { λ r. ⌜ r ≤ 64 ⌝ }
+        ensures low { λ r. ⌜ r ≤ length (lists (now (self .entry)) .receipts) ⌝ }
     {
         let receipts = self.receipts.as_slice();
         let mut count = 0;

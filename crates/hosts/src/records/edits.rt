@@ -1,7 +1,9 @@
 ghost use mathlib.Core.Path.{_≡_};
+ghost use mathlib.Core.Bool.{true};
 ghost use Prim.Native.Nat.{ℕ, _<_, _≤_};
 ghost use lib.ListN.{length};
 ghost use Rattle.std.specs.Finite.{nth};
+ghost use Rattle.std.specs.Options.{isSome};
 ghost use Rattle.workload.specs.Machine.{replaced};
 ghost use Rattle.hosts.specs.Network.{count-from, bodies-to};
 ghost use Rattle.hosts.specs.View.{lists-of, no-lists, with-taken};
@@ -35,6 +37,7 @@ impl Records {
         requires { ⌜ p < 8 ⌝ }
         ensures value { λ r. ⌜ r ≡ count-from s (lists-of (now (self .entry)) p .receipts) ⌝ }
         ensures few { λ r. ⌜ r ≤ 64 ⌝ }
+        ensures low { λ r. ⌜ r ≤ length (lists-of (now (self .entry)) p .receipts) ⌝ }
     {
         let all = &self.records[..];
         let one = &all[p as usize];
@@ -54,7 +57,8 @@ impl Records {
     /// The output at place i, from 0, of host p.
     pub fn output(&self, p: u8, i: u8) -> Option<u64>
         requires { ⌜ p < 8 ⌝ }
-        ensures { λ r. ⌜ r ≡ nth (lists-of (now (self .entry)) p .outputs) i ⌝ }
+        ensures value { λ r. ⌜ r ≡ nth (lists-of (now (self .entry)) p .outputs) i ⌝ }
+        ensures few { λ r. ⌜ (isSome r ≡ true → i < 64) ⌝ }
     {
         let all = &self.records[..];
         let one = &all[p as usize];

@@ -8,5 +8,5 @@ use Rattle.hosts.proofs.by_host.ByHost.get.Needs as need
 
 pub returns : need.returns
 returns c =
-    c .get .ensures
+    c .get .ensures .value
     ∙ ap (λ xs. nth xs (c .args .i)) (sym (read-at listed [] (c .args .self .now .lists) (c .args .p) (search needs) (c .index-all-p .result) (c .index-all-p .is)))

@@ -28,4 +28,4 @@ returns c =
     let none : count-from (c .args .s) (drop i xs) ≡ 0 = at-drop-all (count-from (c .args .s)) xs i (omega arith) in
     let inv = c .loop-receipt .inv in
     let all : c .loop-receipt .count ≡ count-from (c .args .s) xs = omega arith in
-    record { value = all ∙ ap (count-from (c .args .s)) (c .as-slice-receipts .ensures .value); few = omega arith }
+    record { value = all ∙ ap (count-from (c .args .s)) (c .as-slice-receipts .ensures .value); few = omega arith; low = omega (arith, ap length (c .as-slice-receipts .ensures .value)) }

@@ -1,0 +1,4 @@
+//! Tests of the two loggers.
+
+#[cfg(test)]
+mod tests;
