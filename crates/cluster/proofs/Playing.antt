@@ -46,9 +46,11 @@ module _ {L S : Type 0} (log : logger.Ghosts L) (machine : ℕ → Machine S) (n
     where
       go : (x : Result (Unit {0}) Refusal) → unless-refused x (a .cluster) (Ok 0, opened (machine n) n f) ≡ (Ok k, b .cluster)
           → Follows log (if-accepted x (Operation.start n f ∷ [])) (a .logger) (b .logger) → (k ≡ 0) × (x ≡ Ok tt) × Trace log (machine n) n f [] b
-      go (Ok u) h w =
-          (cc (ap (λ (r : Answer × Cluster S). r .0) h), refl,
-          subst (λ (s : System S L). Trace log (machine n) n f [] s) (λ i. record { cluster = ap (λ (r : Answer × Cluster S). r .1) h i; logger = w .2 i }) (opens (w .1)))
+      go (Ok u) h w = (
+        cc (ap (λ (r : Answer × Cluster S). r .0) h),
+        refl,
+        subst (λ (s : System S L). Trace log (machine n) n f [] s) (λ i. record { cluster = ap (λ (r : Answer × Cluster S). r .1) h i; logger = w .2 i }) (opens (w .1)),
+      )
       go (Err d) h w = (let z : _≡_ {A = ℕ} 0 1 = cc (ap (λ (r : Answer × Cluster S). r .0) h) in absurd (omega arith))
 
   -- one call more

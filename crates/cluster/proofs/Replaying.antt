@@ -29,8 +29,8 @@ module _ {S : Type 0} (found : Finder) (returning : ℕ → Bool) where
   replaying-more k t count q v₀ v w a l e ew r =
       let j = k - (t + 1) in
       let taken : replay found returning (k - t) v ≡ (replay found returning j w .0 + 1, replay found returning j w .1) =
-          turn k t v l ∙ ap (λ (o : Option (ℕ × Message)). replay-on o v (λ w. replay found returning j w)) e
-          ∙ ap (λ (u : Network S). (replay found returning j u .0 + 1, replay found returning j u .1)) (sym ew) in
+      turn k t v l ∙ ap (λ (o : Option (ℕ × Message)). replay-on o v (λ w. replay found returning j w)) e
+      ∙ ap (λ (u : Network S). (replay found returning j u .0 + 1, replay found returning j u .1)) (sym ew) in
       let counted : replay found returning j w .0 + 1 + count ≡ replay found returning j w .0 + (count + 1) = omega arith in
       r ∙ ap (λ (x : ℕ × Network S). (x .0 + count, x .1)) taken ∙ ap (λ (c : ℕ). (c, replay found returning j w .1)) counted
 

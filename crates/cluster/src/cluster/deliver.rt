@@ -75,6 +75,7 @@ impl<L: Logger, W: Workload> Cluster<L, W> {
         let message = self.check_taking(p, s)?;
         let determinant = self.determinant(p, message);
         tell(&mut self.logger, s, p, determinant, point);
+        self.logger.lose(p);
         self.take_down(p);
         Ok(0)
     }

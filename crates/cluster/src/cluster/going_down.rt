@@ -3,7 +3,6 @@ ghost use mathlib.Core.Bool.{cond};
 ghost use Prim.Native.Nat.{_<_};
 ghost use Rattle.logger.specs.HostSets.{members};
 ghost use Rattle.logger.specs.Meaning.{count};
-ghost use Rattle.logger.specs.Operation.{Operation};
 ghost use Rattle.cluster.specs.Calls.{Called};
 ghost use Rattle.cluster.specs.Cluster.{crashed, down-count};
 ghost use Rattle.cluster.specs.declared.call.Call.the-variants.{Crash};
@@ -32,13 +31,12 @@ impl<L: Logger, W: Workload> Cluster<L, W> {
         found
     }
 
-    /// Host p goes down: it loses all that it had, and the logger is told.
+    /// Host p is down and has lost all that it had. The cluster is whole no more once more than f hosts are down.
     pub(super) fn take_down(&mut self, p: u8)
         requires { ⌜ p < 8 ⌝ }
         ensures cluster { λ _. ⌜ system W·Workload (now (self .exit)) .cluster ≡ crashed (system W·Workload (now (self .entry)) .cluster) p ⌝ }
-        ensures logger { λ _. ⌜ L·Logger .acts (Operation.lose p) (now (self .entry) .logger) (now (self .exit) .logger) ⌝ }
+        ensures logger { λ _. ⌜ now (self .exit) .logger ≡ now (self .entry) .logger ⌝ }
     {
-        self.logger.lose(p);
         self.hosts.reset(p);
         self.down = self.down.insert(p);
         self.whole = self.down_count() <= self.f;
@@ -50,6 +48,7 @@ impl<L: Logger, W: Workload> Cluster<L, W> {
     {
         self.check_host(p)?;
         self.check_up(p)?;
+        self.logger.lose(p);
         self.take_down(p);
         Ok(0)
     }

@@ -15,7 +15,9 @@ impl<L: Logger, W: Workload> Cluster<L, W> {
         self.check_host(p)?;
         self.check_up(p)?;
         let released = self.hosts.released(p);
-        let output = self.hosts.output(p, released).ok_or(Refusal::NothingToRelease)?;
+        let output = self.hosts
+            .output(p, released)
+            .ok_or(Refusal::NothingToRelease)?;
         self.logger.spread(p);
         self.hosts.release(p, output);
         Ok(output)

@@ -15,7 +15,13 @@ use workload::OUTSIDE;
 use workload::Workload;
 
 /// What host q can take next, if it is returning: the message of its next receipt, if that waits.
-fn next_of<L: Logger, W: Workload>(hosts: &Hosts<W>, logger: &L, returning: HostSet, q: u8, target: u8) -> Option<Message>
+fn next_of<L: Logger, W: Workload>(
+    hosts: &Hosts<W>,
+    logger: &L,
+    returning: HostSet,
+    q: u8,
+    target: u8,
+) -> Option<Message>
     requires { ⌜ q < 8 ⌝ ∗ ⌜ target ≤ 64 ⌝ ∗ ⌜ target ≡ Target (L·Logger .found (now logger)) q ⌝ }
     ensures value { λ r. ⌜ r ≡ replayable (L·Logger .found (now (logger .entry))) (members returning) (look W·Workload (now (hosts .entry))) q ⌝ }
     ensures room { λ r. ⌜ found r (λ _. length (look W·Workload (now (hosts .entry)) .hosts q .receipts) < 64) ⌝ }
@@ -29,11 +35,20 @@ fn next_of<L: Logger, W: Workload>(hosts: &Hosts<W>, logger: &L, returning: Host
         return None;
     }
     let message = hosts.waiting(q, s)?;
-    if message.ssn == ssn { Some(message) } else { None }
+    if message.ssn == ssn {
+        Some(message)
+    } else {
+        None
+    }
 }
 
 /// The lowest returning host that can take its next receipt's message, with that message.
-fn lowest<L: Logger, W: Workload>(hosts: &Hosts<W>, logger: &L, returning: HostSet, targets: &[u8; 8]) -> Option<(u8, Message)>
+fn lowest<L: Logger, W: Workload>(
+    hosts: &Hosts<W>,
+    logger: &L,
+    returning: HostSet,
+    targets: &[u8; 8],
+) -> Option<(u8, Message)>
     requires { ⌜ Are-targets (L·Logger .found (now logger)) (now targets) ⌝ }
     ensures value { λ r. ⌜ r ≡ lowest (look W·Workload (now (hosts .entry)) .n) (replayable (L·Logger .found (now (logger .entry))) (members returning) (look W·Workload (now (hosts .entry)))) ⌝ }
     ensures room { λ r. ⌜ found r (λ x. (x .0 < 8) × (length (look W·Workload (now (hosts .entry)) .hosts (x .0) .receipts) < 64)) ⌝ }
@@ -70,7 +85,12 @@ fn total<L: Logger>(logger: &L, returning: HostSet, targets: &[u8; 8], n: u8) ->
 
 /// Replays receipts: again and again the lowest returning host that can takes its next receipt's message, and
 /// nothing is noted. Answers how many were replayed.
-pub(super) fn replay<L: Logger, W: Workload>(hosts: &mut Hosts<W>, logger: &L, returning: HostSet, targets: &[u8; 8]) -> u16
+pub(super) fn replay<L: Logger, W: Workload>(
+    hosts: &mut Hosts<W>,
+    logger: &L,
+    returning: HostSet,
+    targets: &[u8; 8],
+) -> u16
     requires { ⌜ Are-targets (L·Logger .found (now logger)) (now targets) ⌝ }
     ensures { λ r. ⌜ replay (L·Logger .found (now (logger .entry))) (members returning) (Targets (L·Logger .found (now (logger .entry))) (members returning) (look W·Workload (now (hosts .entry)) .n)) (look W·Workload (now (hosts .entry))) ≡ (r, look W·Workload (now (hosts .exit))) ⌝ }
 {
@@ -96,13 +116,22 @@ fn has_reached(returning: bool, receipts: u8, target: u8) -> bool
 }
 
 /// Whether every returning host has as many receipts as its target says.
-pub(super) fn all_reached<L: Logger, W: Workload>(hosts: &Hosts<W>, logger: &L, returning: HostSet, targets: &[u8; 8]) -> bool
+pub(super) fn all_reached<L: Logger, W: Workload>(
+    hosts: &Hosts<W>,
+    logger: &L,
+    returning: HostSet,
+    targets: &[u8; 8],
+) -> bool
     requires { ⌜ Are-targets (L·Logger .found (now logger)) (now targets) ⌝ }
     ensures { λ r. ⌜ r ≡ all-reached (L·Logger .found (now (logger .entry))) (members returning) (look W·Workload (now (hosts .entry))) ⌝ }
 {
     let n = hosts.n();
     for q in 0..n {
-        if !has_reached(returning.contains(q), hosts.receipts(q), targets[q as usize]) {
+        if !has_reached(
+            returning.contains(q),
+            hosts.receipts(q),
+            targets[q as usize],
+        ) {
             return false;
         }
     }

@@ -12,10 +12,12 @@ loop-turn-holds g c =
     (replaying-starts (g .L·Logger .found (c .args .logger .now)) (members (c .args .returning)) (c .total-most .result) (look (g .W·Workload) (c .args .hosts .now)), omega arith)
 
 pub loop-turn-again : need.loop-turn-again
-loop-turn-again g c =
-    (replaying-more (g .L·Logger .found (c .args .logger .now)) (members (c .args .returning)) (c .total-most .result) (c .loop-turn .-turn) (c .loop-turn .count) (c .in-Some .q)
-    (look (g .W·Workload) (c .args .hosts .now)) (look (g .W·Workload) (c .loop-turn .hosts)) _ (c .in-Some .message) (c .loop-turn-test .taken)
-    (sym (c .lowest-next .ensures .value) ∙ c .in-Some .is) (c .take .ensures) (c .loop-turn .inv .0), omega arith)
+loop-turn-again g c = (
+  replaying-more (g .L·Logger .found (c .args .logger .now)) (members (c .args .returning)) (c .total-most .result) (c .loop-turn .-turn) (c .loop-turn .count) (c .in-Some .q)
+      (look (g .W·Workload) (c .args .hosts .now)) (look (g .W·Workload) (c .loop-turn .hosts)) _ (c .in-Some .message) (c .loop-turn-test .taken)
+      (sym (c .lowest-next .ensures .value) ∙ c .in-Some .is) (c .take .ensures) (c .loop-turn .inv .0),
+  omega arith,
+)
 
 pub returns-in-None : need.returns-in-None
 returns-in-None g c =

@@ -14,6 +14,6 @@ loop-q-again g c =
     let low : c .loop-q .q < 8 = omega (arith, c .pre .0) in
     let at = c .pre .1 (c .loop-q .q) low in
     let more : c .target-if-sum .result ≡ cond (members (c .args .returning) (c .loop-q .q)) (target found (c .loop-q .q)) 0 =
-        c .target-if-sum .ensures ∙ (λ i. cond (c .contains .ensures i) (at i) 0) in
+    c .target-if-sum .ensures ∙ (λ i. cond (c .contains .ensures i) (at i) 0) in
     let few = target-low found (c .loop-q .q) in
     rw add-one (grind arith)
