@@ -1,10 +1,11 @@
 -- Each accepted call keeps the cluster sound, adds to the posts and the releases what it says, and spares the hosts that stay up.
 use mathlib.Core.Path.{_≡_, refl, sym, subst}
 use mathlib.Core.Bool.{true, false, cond}
-use mathlib.Core.List.{[], _∷_}
+use mathlib.Core.List.{List, [], _∷_, _++_, append-nil}
 use Prim.Native.Nat.{ℕ, zero, suc, _+_, _<_}
+use native.Mathlib.Omega.{arith}
 use lib.ListN.{length}
-use Rattle.std.proofs.shelf.Tests.{false≢true, ltb-true, not-true, ne-eqb}
+use Rattle.std.proofs.shelf.Tests.{false≢true, ltb-true, le-leb, not-true, ne-eqb}
 use Rattle.std.specs.Options.{valueOr}
 use Rattle.std.specs.declared.option.Option.{Option}
 use Rattle.std.specs.declared.result.Result.the-variants.{Ok}
@@ -14,15 +15,17 @@ use Rattle.hosts.specs.Network.{is-sender, received, waiting, takes, host-check
 use Rattle.hosts.specs.World.{World}
 use Rattle.hosts.proofs.Checked.{Pass}
 use Rattle.hosts.proofs.Places.{some-from}
+use Rattle.logger.specs.declared.determinant.Determinant.{Determinant}
 use Rattle.logger.specs.declared.logger.Logger as logger
-use Rattle.logger.specs.Operation.{spread, lose, rejoin}
+use Rattle.logger.specs.Operation.{Operation, note, spread, lose, rejoin}
 use Rattle.cluster.specs.declared.call.Call.{Call}
 use Rattle.cluster.specs.declared.call.Call.the-variants.{Post, Deliver, Cut, Release, Crash, Recover, Show}
 use Rattle.cluster.specs.Cluster.{Cluster, with-network, crashed, nobody}
 use Rattle.cluster.specs.Recovery.{total}
-use Rattle.cluster.specs.Calls.{Answer, up-check, sender-check, checks, next-output, released-by, begun, recovered, done, made, Follows}
+use Rattle.cluster.specs.Calls.{Answer, up-check, sender-check, checks, next-output, released-by, next-determinant, carried, told, begun, recovered, done, made, Follows}
 use Rattle.cluster.specs.Trace.{post-in, disturbs}
-use Rattle.cluster.proofs.Sound.{Laws, Sound}
+use Rattle.cluster.specs.Sound.{Sound, Sounds}
+use Rattle.cluster.proofs.Laws.{Laws}
 use Rattle.cluster.proofs.Keeps.{Deliverable, follows-append, post-sound, release-sound, carried-sound, deliver-sound}
 use Rattle.cluster.proofs.Crashes.{still-up, crash-sound, crash-forgets}
 use Rattle.cluster.proofs.Observes.{outline, with-call, Room}
@@ -48,13 +51,9 @@ module _ {S : Type 0} where
       (t .0, record { host = ltb-true p (c .network .n) h; up = not-true _ (k .0); sender = s; sender-up = k .1 .0; waits = t .1; room = ltb-true _ 64 (k .1 .1 .1 .0) })
 
 module _ {L S : Type 0} (log : logger.Ghosts L) where
-  -- some world is behind the cluster and its logger
-  abbrev pub Sounds : Cluster S → L → Type 0
-  Sounds c l = (W : World) × (rel : ℕ → ℕ) × Sound log W rel c l
-
   -- what a call leaves
   pub record Kept (c : Cluster S) (call : Call) (answer : Answer) (d : Cluster S) (m : L) : Type 0 where
-    pub sounds : Sounds d m
+    pub sounds : Sounds log d m
     pub adds : outline d ≡ with-call (outline c) call answer
     pub room : Room (outline c) (post-in call answer)
     pub spares : disturbs call ≡ true → (h : ℕ) → c .down h ≡ false → d .down h ≡ false → d .network .hosts h ≡ c .network .hosts h
@@ -63,13 +62,18 @@ module _ {L S : Type 0} {log : logger.Ghosts L} {W : World} {rel : ℕ → ℕ} 
   loses : (p : ℕ) → p < c .network .n → c .down p ≡ false → (m : L) → Follows log (lose p ∷ []) l m → crashed c p .whole ≡ true → Sounds log (crashed c p) m
   loses p i e m fo w = let k = crash-sound s laws p i e m (subst (log .acts (lose p) l) (fo .2) (fo .1)) w in (k .0, rel, k .1)
 
+-- from point 2 on the logger is told of the whole delivery
+told-all : (p s : ℕ) (d : Determinant) (i : ℕ) → told p s d (suc (suc i)) ≡ carried p s ++ (note p d ∷ [])
+told-all p s d i = rw (le-leb 1 (suc (suc i)) (omega arith), le-leb 2 (suc (suc i)) (omega arith))
+
 module _ {L S : Type 0} {log : logger.Ghosts L} {W : World} {rel : ℕ → ℕ} {c : Cluster S} {l : L} (s : Sound log W rel c l) (laws : Laws log) where
   -- a delivery that is cut at a point
   cut-sound : {p q : ℕ} {t : Message} → Deliverable c p q t → (i : ℕ) (k m : L) → Follows log (begun c p q i) l k → Follows log (lose p ∷ []) k m → crashed c p .whole ≡ true → Sounds log (crashed c p) m
   cut-sound {p} d zero k m fo lo w = loses (subst (Sound log W rel c) fo s) laws p (d .host) (d .up) m lo w
-  cut-sound {p} d (suc zero) k m fo lo w = loses (carried-sound s laws d k fo .0) laws p (d .host) (d .up) m lo w
-  cut-sound {p} {t = t} d (suc (suc i)) k m fo lo w =
-      subst (λ (x : Cluster S). Sounds log x m) (crash-forgets c p (taking (c .network .machine) p (c .network .hosts p) t)) (loses (deliver-sound s laws d k fo) laws p (d .host) (d .up) m lo w)
+  cut-sound {p} {q} d (suc zero) k m fo lo w =
+      loses (carried-sound s laws d k (subst (λ (ops : List Operation). Follows log ops l k) (append-nil (carried p q)) fo) .0) laws p (d .host) (d .up) m lo w
+  cut-sound {p} {q} {t} d (suc (suc i)) k m fo lo w =
+      subst (λ (x : Cluster S). Sounds log x m) (crash-forgets c p (taking (c .network .machine) p (c .network .hosts p) t)) (loses (deliver-sound s laws d k (subst (λ (ops : List Operation). Follows log ops l k) (told-all p q (next-determinant c p q) i) fo)) laws p (d .host) (d .up) m lo w)
 
   -- what a recovery leaves
   abbrev pub back : Cluster S

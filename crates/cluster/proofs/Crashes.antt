@@ -29,7 +29,8 @@ use Rattle.cluster.specs.Cluster.{Cluster, with-network, crashed}
 use Rattle.cluster.specs.Guarantee.{events, lengths}
 use Rattle.cluster.proofs.Events.{agree-sym, at-is, agree}
 use Rattle.cluster.proofs.Keeps.{is-up}
-use Rattle.cluster.proofs.Sound.{Laws, Sound}
+use Rattle.cluster.specs.Sound.{Sound}
+use Rattle.cluster.proofs.Laws.{Laws}
 
 -- a host that is up after p crashed is another, and was up
 pub still-up : (down : ℕ → Bool) (p h : ℕ) → replaced down p true h ≡ false → (h ≡ p → ⊥) × (down h ≡ false)

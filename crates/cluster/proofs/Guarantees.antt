@@ -30,10 +30,11 @@ use Rattle.cluster.specs.Recovery.{target, total}
 use Rattle.cluster.specs.Calls.{Answer, checks, recovered, System, outcome}
 use Rattle.cluster.specs.Trace.{posts-of, releases-of, Trace, opens, then, Within}
 use Rattle.cluster.specs.Guarantee.{events, lengths, As-crash-free, Behind, Recovers, Holds, Guarantee, Guaranteed, Whole-is-within}
-use Rattle.cluster.proofs.Sound.{Laws, Sound}
+use Rattle.cluster.specs.Sound.{Sound, Sounds}
+use Rattle.cluster.proofs.Laws.{Laws}
 use Rattle.cluster.proofs.Keeps.{open-sound, outputs-begin}
 use Rattle.cluster.proofs.Recovers.{target-is, found-is}
-use Rattle.cluster.proofs.Accepts.{Sounds, back, recovered-is}
+use Rattle.cluster.proofs.Accepts.{back, recovered-is}
 use Rattle.cluster.proofs.Observes.{Outline, Observed, nothing-observed, observed-more}
 use Rattle.cluster.proofs.Steps.{was-whole, kept, stays-whole}
 

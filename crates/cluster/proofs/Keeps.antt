@@ -41,7 +41,8 @@ use Rattle.cluster.specs.Cluster.{Cluster, opened, with-network}
 use Rattle.cluster.specs.Calls.{next-output, next-determinant, carried, delivered, Follows}
 use Rattle.cluster.specs.Guarantee.{events, lengths}
 use Rattle.cluster.proofs.Events.{at-is, agree}
-use Rattle.cluster.proofs.Sound.{Laws, Sound}
+use Rattle.cluster.specs.Sound.{Sound}
+use Rattle.cluster.proofs.Laws.{Laws}
 
 replaced-updated : (g : ℕ → ℕ) (p x : ℕ) → Updated g (replaced g p x) p x
 replaced-updated g p x = grind (arith, tells)

@@ -1,4 +1,4 @@
-pub mod Sound
+pub mod Laws
 pub mod Events
 pub mod Sums
 pub mod Targets

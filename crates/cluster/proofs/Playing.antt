@@ -16,6 +16,7 @@ use Rattle.workload.specs.Machine.{Machine}
 use Rattle.hosts.specs.declared.refusal.Refusal.{Refusal}
 use Rattle.hosts.specs.Checks.{checked, unless-refused}
 use Rattle.logger.specs.declared.logger.Logger as logger
+use Rattle.hosts.specs.World.{nothing}
 use Rattle.hosts.proofs.Checked.{checked-pass}
 use Rattle.logger.specs.Clauses.{Sizes}
 use Rattle.logger.specs.Operation.{Operation}
@@ -24,10 +25,13 @@ use Rattle.cluster.specs.declared.call.Made.{Made}
 use Rattle.cluster.specs.Calls.{Answer, System, Follows, Called, Opened, open-checks, if-accepted}
 use Rattle.cluster.specs.Cluster.{Cluster, opened}
 use Rattle.cluster.specs.Played.{Made-all}
+use Rattle.cluster.specs.Sound.{Sounds, Stays-sound}
 use Rattle.cluster.specs.Trace.{Trace, opens, then}
 use Rattle.cluster.proofs.Alikes.{no-logger-shows}
 use Rattle.cluster.proofs.Guarantees.{guaranteed, whole-is-within}
-use Rattle.cluster.proofs.Sound.{Laws}
+use Rattle.cluster.proofs.Keeps.{open-sound}
+use Rattle.cluster.proofs.Laws.{Laws}
+use Rattle.cluster.proofs.Steps.{kept}
 
 module _ {L S : Type 0} (log : logger.Ghosts L) (machine : ℕ → Machine S) (n f : ℕ) where
   -- a refused open leaves everything as it was
@@ -40,18 +44,22 @@ module _ {L S : Type 0} (log : logger.Ghosts L) (machine : ℕ → Machine S) (n
       go (Err d) h k =
           (cc (ap (λ (r : Answer × Cluster S). r .0) h), λ i. record { cluster = sym (ap (λ (r : Answer × Cluster S). r .1) h) i; logger = sym k i })
 
-  -- an accepted one answers 0, and begins a trace
-  pub open-accepted : (a b : System S L) (k : ℕ) → Opened log machine a n f (Ok k) b → (k ≡ 0) × (checked (open-checks n f) ≡ Ok tt) × Trace log (machine n) n f [] b
-  open-accepted a b k o = go (checked (open-checks n f)) (o .cluster) (o .logger)
+  -- an accepted one answers 0 and tells the logger to start
+  pub open-starts :
+      (a b : System S L) (k : ℕ) → Opened log machine a n f (Ok k) b
+      → (k ≡ 0) × (checked (open-checks n f) ≡ Ok tt) × ((l : L) × log .acts (Operation.start n f) (a .logger) l × (_≡_ {A = System S L} (record { cluster = opened (machine n) n f; logger = l }) b))
+  open-starts a b k o = go (checked (open-checks n f)) (o .cluster) (o .logger)
     where
       go : (x : Result (Unit {0}) Refusal) → unless-refused x (a .cluster) (Ok 0, opened (machine n) n f) ≡ (Ok k, b .cluster)
-          → Follows log (if-accepted x (Operation.start n f ∷ [])) (a .logger) (b .logger) → (k ≡ 0) × (x ≡ Ok tt) × Trace log (machine n) n f [] b
-      go (Ok u) h w = (
-        cc (ap (λ (r : Answer × Cluster S). r .0) h),
-        refl,
-        subst (λ (s : System S L). Trace log (machine n) n f [] s) (λ i. record { cluster = ap (λ (r : Answer × Cluster S). r .1) h i; logger = w .2 i }) (opens (w .1)),
-      )
+          → Follows log (if-accepted x (Operation.start n f ∷ [])) (a .logger) (b .logger)
+          → (k ≡ 0) × (x ≡ Ok tt) × ((l : L) × log .acts (Operation.start n f) (a .logger) l × (_≡_ {A = System S L} (record { cluster = opened (machine n) n f; logger = l }) b))
+      go (Ok u) h w =
+          (cc (ap (λ (r : Answer × Cluster S). r .0) h), refl, (w .0, w .1, λ i. record { cluster = ap (λ (r : Answer × Cluster S). r .1) h i; logger = w .2 i }))
       go (Err d) h w = (let z : _≡_ {A = ℕ} 0 1 = cc (ap (λ (r : Answer × Cluster S). r .0) h) in absurd (omega arith))
+
+  -- and begins a trace
+  pub open-accepted : (a b : System S L) (k : ℕ) → Opened log machine a n f (Ok k) b → (k ≡ 0) × (checked (open-checks n f) ≡ Ok tt) × Trace log (machine n) n f [] b
+  open-accepted a b k o = let x = open-starts a b k o in (x .0, x .1, subst (λ (s : System S L). Trace log (machine n) n f [] s) (x .2 .2) (opens (x .2 .1)))
 
   -- one call more
   pub trace-more :
@@ -95,3 +103,12 @@ module _ {L S : Type 0} (log : logger.Ghosts L) (laws : Laws log) (machine : ℕ
         guarantee = guaranteed log laws machine n f sizes after b t;
         alike = λ posts pairs valid e. no-logger-shows log machine n f sizes posts pairs valid after b t (same ∙ e);
       }
+
+-- an accepted open makes the cluster sound, and each call keeps it so
+pub stays-sound : {L S : Type 0} (log : logger.Ghosts L) (laws : Laws log) (machine : ℕ → Machine S) → Stays-sound log machine
+stays-sound {L} {S} log laws machine = record { opened = opened-sound; called = λ a b call answer c s whole. kept c laws s whole .sounds }
+  where
+    opened-sound : (a b : System S L) (n f k : ℕ) → Opened log machine a n f (Ok k) b → Sounds log (b .cluster) (b .logger)
+    opened-sound a b n f k o =
+        let x = open-starts log machine n f a b k o in
+        subst (λ (s : System S L). Sounds log (s .cluster) (s .logger)) (x .2 .2) (nothing, λ h. 0, open-sound laws (machine n) n f (a .logger) (x .2 .0) (sizes-of n f (x .1)) (x .2 .1))

@@ -13,7 +13,8 @@ use Rattle.logger.proofs.Crashing.{rejoin-keeps}
 use Rattle.cluster.specs.Cluster.{Cluster, nobody}
 use Rattle.cluster.specs.Guarantee.{events, lengths}
 use Rattle.cluster.specs.Recovery.{total, replayed, all-reached}
-use Rattle.cluster.proofs.Sound.{Laws, Sound}
+use Rattle.cluster.specs.Sound.{Sound}
+use Rattle.cluster.proofs.Laws.{Laws}
 use Rattle.cluster.proofs.Returning.{brought-back, World-behind, brought-back-is}
 use Rattle.cluster.proofs.Replays as replays
 use Rattle.cluster.proofs.Replays.{Finds}

@@ -16,8 +16,9 @@ use Rattle.cluster.specs.declared.call.Call.the-variants.{Post, Deliver, Cut, 
 use Rattle.cluster.specs.Cluster.{Cluster, down-count}
 use Rattle.cluster.specs.Calls.{Answer, checks, done, made, if-accepted, System, Follows, Called}
 use Rattle.cluster.specs.Trace.{post-in, release-in}
-use Rattle.cluster.proofs.Sound.{Laws}
-use Rattle.cluster.proofs.Accepts.{accepted-whole, Sounds, Kept, recovered-is, accepted}
+use Rattle.cluster.proofs.Laws.{Laws}
+use Rattle.cluster.specs.Sound.{Sounds}
+use Rattle.cluster.proofs.Accepts.{accepted-whole, Kept, recovered-is, accepted}
 
 -- a refused call gives nothing to the outside world
 refused-in : (call : Call) (e : Refusal) → (post-in call (Err e) ≡ None) × (release-in call (Err e) ≡ None)

@@ -21,7 +21,8 @@ use Rattle.cluster.specs.Cluster.{Cluster}
 use Rattle.cluster.specs.Guarantee.{events, lengths}
 use Rattle.cluster.specs.Recovery.{reach, target}
 use Rattle.cluster.proofs.Events.{at-is}
-use Rattle.cluster.proofs.Sound.{Laws, Sound}
+use Rattle.cluster.specs.Sound.{Sound}
+use Rattle.cluster.proofs.Laws.{Laws}
 
 -- all from r + 1 to t are found, and t + 1 is not
 reach-is : (found : ℕ → Option (ℕ × ℕ)) (k r t : ℕ) → r ≤ t → t ≤ r + k → ((i : ℕ) → r < i → i ≤ t → isSome (found i) ≡ true) → isSome (found (t + 1)) ≡ false → reach found k r ≡ t

@@ -2,7 +2,7 @@
 use mathlib.Core.Path.{_≡_}
 use mathlib.Core.Bool.{Bool, true, false, cond, not, _&&_, _||_}
 use mathlib.Core.List.{List, [], _∷_, _++_}
-use Prim.Native.Nat.{ℕ, zero, suc, _+_}
+use Prim.Native.Nat.{ℕ, _+_}
 use lib.Dec.{eqb, leb, ltb}
 use lib.ListN.{length}
 use Rattle.std.specs.Finite.{nth}
@@ -88,11 +88,9 @@ module _ {S : Type 0} (c : Cluster S) where
   abbrev pub delivered : ℕ → ℕ → List Operation
   delivered p s = carried p s ++ (note p (next-determinant p s) ∷ [])
 
-  -- a delivery that is cut at a point: 0 before the carry, 1 after it, 2 after the note, 3 after all
+  -- of a delivery that is cut at a point
   abbrev pub begun : ℕ → ℕ → ℕ → List Operation
-  begun p s zero = []
-  begun p s (suc zero) = carried p s
-  begun p s (suc (suc k)) = delivered p s
+  begun p s k = told p s (next-determinant p s) k
 
 module _ {S : Type 0} (found : Finder) (c : Cluster S) where
   -- All returning hosts reached their targets: every host is up. Else they are down again and empty, and the cluster is not whole.

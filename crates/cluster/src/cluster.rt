@@ -3,14 +3,15 @@ use logger::host_set::HostSet;
 
 mod any_call;
 mod checks;
+mod crash;
 mod deliver;
-mod going_down;
 mod opening;
 mod play;
-mod quick;
+mod post;
 mod recover;
 mod release;
 mod replay;
+mod show;
 mod targets;
 
 /// Hosts that may crash, with the logger that remembers the order of their receipts. At most f of them may be

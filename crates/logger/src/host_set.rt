@@ -10,12 +10,14 @@ pub struct HostSet {
 }
 
 impl HostSet {
+    /// No host.
     pub fn empty() -> HostSet
         ensures { λ r. ⌜ members r ≡ nobody ⌝ }
     {
         HostSet { bits: 0 }
     }
 
+    /// The set, with host p in it.
     pub fn insert(self, p: u8) -> HostSet
         requires { ⌜ p < 8 ⌝ }
         ensures { λ r. ⌜ members r ≡ with-host (members self) p ⌝ }
@@ -25,7 +27,7 @@ impl HostSet {
         }
     }
 
-    pub fn union(self, other: HostSet) -> HostSet
+    pub(crate) fn union(self, other: HostSet) -> HostSet
         ensures { λ r. ⌜ members r ≡ either (members self) (members other) ⌝ }
     {
         HostSet {
