@@ -2,6 +2,7 @@ ghost use Prim.Native.Nat.{_≤_};
 use crate::outside::Outside;
 use crate::records::Records;
 
+mod checks;
 mod reads;
 mod writes;
 

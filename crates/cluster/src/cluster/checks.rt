@@ -3,7 +3,7 @@ ghost use mathlib.Core.List.{[], _∷_};
 ghost use Prim.Native.Nat.{_<_, _≤_};
 ghost use lib.ListN.{length};
 ghost use Rattle.hosts.specs.Checks.{checked};
-ghost use Rattle.hosts.specs.Network.{host-check, pair-checks, waiting};
+ghost use Rattle.hosts.specs.Network.{waiting};
 ghost use Rattle.std.specs.Vec.{made};
 ghost use Rattle.std.specs.declared.option.Option.the-variants.{Some};
 ghost use Rattle.cluster.specs.Calls.{whole-check, up-check, taking-checks, whether};
@@ -16,30 +16,6 @@ use workload::OUTSIDE;
 use workload::Workload;
 
 impl<L: Logger, W: Workload> Cluster<L, W> {
-    /// Check 3.
-    pub(super) fn check_host(&self, p: u8) -> Result<(), Refusal>
-        ensures value { λ r. ⌜ r ≡ checked (host-check (system W·Workload (now (self .entry)) .cluster .network) p ∷ []) ⌝ }
-    {
-        if p >= self.hosts.n() {
-            return Err(Refusal::NoSuchHost);
-        }
-        Ok(())
-    }
-
-    /// Checks 3 and 4.
-    pub(super) fn check_pair(&self, p: u8, s: u8) -> Result<(), Refusal>
-        ensures { λ r. ⌜ r ≡ checked (pair-checks (system W·Workload (now (self .entry)) .cluster .network) p s) ⌝ }
-    {
-        let n = self.hosts.n();
-        if p >= n {
-            return Err(Refusal::NoSuchHost);
-        }
-        if s != OUTSIDE && (s >= n || s == p) {
-            return Err(Refusal::NoSuchSender);
-        }
-        Ok(())
-    }
-
     /// Checks 6 and 7.
     pub(super) fn check_up(&self, p: u8) -> Result<(), Refusal>
         requires { ⌜ p < 8 ⌝ }

@@ -46,7 +46,7 @@ impl<L: Logger, W: Workload> Cluster<L, W> {
     pub fn crash(&mut self, p: u8) -> Result<u64, Refusal>
         ensures { λ r. ⌜ Called L·Logger (system W·Workload (now (self .entry))) (Crash p) r (system W·Workload (now (self .exit))) ⌝ }
     {
-        self.check_host(p)?;
+        self.hosts.check_host(p)?;
         self.check_up(p)?;
         self.logger.lose(p);
         self.take_down(p);

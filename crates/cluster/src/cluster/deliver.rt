@@ -55,7 +55,7 @@ impl<L: Logger, W: Workload> Cluster<L, W> {
     pub fn deliver(&mut self, p: u8, s: u8) -> Result<u64, Refusal>
         ensures { λ r. ⌜ Called L·Logger (system W·Workload (now (self .entry))) (Deliver p s) r (system W·Workload (now (self .exit))) ⌝ }
     {
-        self.check_pair(p, s)?;
+        self.hosts.check_pair(p, s)?;
         let message = self.check_taking(p, s)?;
         let determinant = self.determinant(p, message);
         carry(&mut self.logger, s, p);
@@ -68,7 +68,7 @@ impl<L: Logger, W: Workload> Cluster<L, W> {
     pub fn cut(&mut self, p: u8, s: u8, point: u8) -> Result<u64, Refusal>
         ensures { λ r. ⌜ Called L·Logger (system W·Workload (now (self .entry))) (Cut p s point) r (system W·Workload (now (self .exit))) ⌝ }
     {
-        self.check_pair(p, s)?;
+        self.hosts.check_pair(p, s)?;
         if point > 3 {
             return Err(Refusal::NoSuchPoint);
         }

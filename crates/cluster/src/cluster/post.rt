@@ -12,7 +12,7 @@ impl<L: Logger, W: Workload> Cluster<L, W> {
     pub fn post(&mut self, p: u8, body: u64) -> Result<u64, Refusal>
         ensures { λ r. ⌜ Called L·Logger (system W·Workload (now (self .entry))) (Post p body) r (system W·Workload (now (self .exit))) ⌝ }
     {
-        self.check_host(p)?;
+        self.hosts.check_host(p)?;
         if !self.whole {
             return Err(Refusal::NotWhole);
         }

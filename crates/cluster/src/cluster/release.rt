@@ -12,7 +12,7 @@ impl<L: Logger, W: Workload> Cluster<L, W> {
     pub fn release(&mut self, p: u8) -> Result<u64, Refusal>
         ensures { λ r. ⌜ Called L·Logger (system W·Workload (now (self .entry))) (Release p) r (system W·Workload (now (self .exit))) ⌝ }
     {
-        self.check_host(p)?;
+        self.hosts.check_host(p)?;
         self.check_up(p)?;
         let released = self.hosts.released(p);
         let output = self.hosts

@@ -12,7 +12,7 @@ impl<L: Logger, W: Workload> Cluster<L, W> {
     pub fn show(&self, p: u8) -> Result<u64, Refusal>
         ensures { λ r. ⌜ Called L·Logger (system W·Workload (now (self .entry))) (Show p) r (system W·Workload (now (self .entry))) ⌝ }
     {
-        self.check_host(p)?;
+        self.hosts.check_host(p)?;
         self.check_up(p)?;
         Ok(self.hosts.show(p))
     }

@@ -1,12 +1,11 @@
 ghost use mathlib.Core.Path.{_≡_};
 ghost use mathlib.Core.List.{[], _∷_};
 ghost use Rattle.hosts.specs.Checks.{checked};
-ghost use Rattle.hosts.specs.Network.{unstarted, host-check, post-check, pair-checks, posting, delivering, starting, showing, output-at};
+ghost use Rattle.hosts.specs.Network.{unstarted, host-check, post-check, posting, delivering, starting, showing, output-at};
 ghost use Rattle.hosts.specs.View.{look};
 use super::CrashFree;
 use crate::hosts::Hosts;
 use crate::refusal::Refusal;
-use workload::OUTSIDE;
 use workload::Workload;
 
 impl<W: Workload> CrashFree<W> {
@@ -33,9 +32,7 @@ impl<W: Workload> CrashFree<W> {
     fn check_post(&self, p: u8) -> Result<(), Refusal>
         ensures { λ r. ⌜ r ≡ checked (host-check (look W·Workload (now (self .entry) .hosts)) p ∷ post-check (look W·Workload (now (self .entry) .hosts)) p ∷ []) ⌝ }
     {
-        if p >= self.hosts.n() {
-            return Err(Refusal::NoSuchHost);
-        }
+        self.hosts.check_host(p)?;
         if self.hosts.posts(p) >= 64 {
             return Err(Refusal::PostsFull);
         }
@@ -52,24 +49,11 @@ impl<W: Workload> CrashFree<W> {
         Ok(ssn as u64)
     }
 
-    fn check_pair(&self, p: u8, s: u8) -> Result<(), Refusal>
-        ensures { λ r. ⌜ r ≡ checked (pair-checks (look W·Workload (now (self .entry) .hosts)) p s) ⌝ }
-    {
-        let n = self.hosts.n();
-        if p >= n {
-            return Err(Refusal::NoSuchHost);
-        }
-        if s != OUTSIDE && (s >= n || s == p) {
-            return Err(Refusal::NoSuchSender);
-        }
-        Ok(())
-    }
-
     /// Host p takes the next message from s. Answers its ssn.
     pub fn deliver(&mut self, p: u8, s: u8) -> Result<u64, Refusal>
         ensures { λ r. ⌜ delivering (look W·Workload (now (self .entry) .hosts)) p s ≡ (r, look W·Workload (now (self .exit) .hosts)) ⌝ }
     {
-        self.check_pair(p, s)?;
+        self.hosts.check_pair(p, s)?;
         let message = self.hosts.waiting(p, s).ok_or(Refusal::NothingWaits)?;
         if self.hosts.receipts(p) >= 64 {
             return Err(Refusal::ReceiptsFull);
@@ -82,9 +66,7 @@ impl<W: Workload> CrashFree<W> {
     pub fn show(&self, p: u8) -> Result<u64, Refusal>
         ensures { λ r. ⌜ r ≡ showing (look W·Workload (now (self .entry) .hosts)) p ⌝ }
     {
-        if p >= self.hosts.n() {
-            return Err(Refusal::NoSuchHost);
-        }
+        self.hosts.check_host(p)?;
         Ok(self.hosts.show(p))
     }
 
