@@ -1,0 +1,9 @@
+pub mod Parts
+pub mod Numbers
+pub mod Places
+pub mod Endings
+pub mod Courses
+pub mod Openings
+pub mod Turns
+pub mod Exactly
+pub mod Choices
