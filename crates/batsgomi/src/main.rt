@@ -1,4 +1,6 @@
 //! Plays the script on standard input, and writes its listing, and the line of a stop, to standard output.
+#![tactic(auto)]
+
 use format::fault::Stop;
 use format::line::ROOM;
 use format::listing::write_stop;

@@ -1,4 +1,6 @@
 //! Three hosts space a line of music, then two hosts move licences, and nothing crashes: each action is printed as it happens.
+#![tactic(auto)]
+
 use hosts::crash_free::CrashFree;
 use hosts::crash_free::feed::{Delivery, Post};
 use network::refusal::Refusal;

@@ -1,5 +1,7 @@
 //! Family-based logging at work: one message is passed on from host 0 to 1 to 2, of three hosts of which one
 //! may be down. After each step: which determinants each host holds, and who it knows to hold them.
+#![tactic(auto)]
+
 ghost use Rattle.std.specs.Prelude.{◌<◌, ◌≤◌};
 
 use logger::determinant::Determinant;

@@ -1,4 +1,5 @@
 //! Tests of the two loggers.
+#![tactic(auto)]
 
 #[cfg(test)]
 mod tests;

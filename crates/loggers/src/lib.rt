@@ -1,4 +1,6 @@
 //! The two loggers that ship: pessimistic and family-based.
+#![tactic(auto)]
+
 pub mod entry;
 pub mod family_based;
 mod holdings;

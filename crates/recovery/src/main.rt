@@ -1,5 +1,7 @@
 //! Clusters that crash and recover, under both loggers: licences moved among four hosts, then a line of music spaced
 //! by three. Each list of calls is made by the call that carries the recovery guarantee, and printed with its answers.
+#![tactic(auto)]
+
 use calls::call::{Call, Made};
 use cluster::cluster::Cluster;
 use logger::host_set::HostSet;

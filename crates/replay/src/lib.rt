@@ -1,4 +1,5 @@
 //! How returning hosts are brought to their targets: the steps of a recovery.
+#![tactic(auto)]
 
 pub mod replay;
 pub mod restart;

@@ -1,4 +1,5 @@
 //! A script is played on a cluster of its own, and answered by a listing.
+#![tactic(auto)]
 
 pub mod export;
 pub mod run;

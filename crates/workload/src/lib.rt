@@ -1,5 +1,7 @@
 //! A workload: the deterministic rule by which each of n hosts takes messages.
 //! The licence ledger and the spacing of music are the two that ship.
+#![tactic(auto)]
+
 ghost use Rattle.std.specs.Prelude.{◌≡◌, ℕ, ◌<◌, ◌≤◌, ◌≢◌, Some};
 ghost use Rattle.workload.specs.Machine.{Machine, replaced};
 

@@ -1,4 +1,5 @@
 //! The workloads at the edges of their rules: each test plays one table of messages.
+#![tactic(auto)]
 
 #[cfg(test)]
 mod ledger;
