@@ -7,4 +7,4 @@ use Rattle.loggers.proofs.holdings.gather.Goals as goal
 pub loop-h-preserved : goal.loop-h-preserved
 loop-h-preserved c =
     let h = c.loop-h.h in
-    rw add-one (c.gather-one-all.ensures ∙ ap (λ (o : Option Holding). cond (members c.args.down h) o (merge o (holdings c.args.held h))) c.loop-h.invariant)
+    rw add-one (c.gather_one-all.ensures ∙ ap (λ (o : Option Holding). cond (members c.args.down h) o (merge o (holdings c.args.held h))) c.loop-h.invariant)

@@ -5,4 +5,4 @@ use Rattle.loggers.proofs.holdings.join.Goals as goal
 
 pub loop-h-preserved : goal.loop-h-preserved
 loop-h-preserved c =
-    rw add-one (c.join-one-all.ensures ∙ ap (λ (K : ℕ → Bool). join_one c.args.f (members c.args.down) K c.loop-h.h) c.loop-h.invariant)
+    rw add-one (c.join_one-all.ensures ∙ ap (λ (K : ℕ → Bool). join_one c.args.f (members c.args.down) K c.loop-h.h) c.loop-h.invariant)

@@ -6,8 +6,8 @@ use Rattle.replay.proofs.Lowest.{none_more, found_at}
 use Rattle.replay.proofs.Reaching.{target_low}
 use Rattle.replay.proofs.replay.lowest.Goals as goal
 
-pub next-of-next-requires : goal.next-of-next-requires
-next-of-next-requires g c =
+pub next_of-next-requires : goal.next_of-next-requires
+next_of-next-requires g c =
     let few = c.args.hosts.now.few in
     let low : c.loop-q.q < 8 = omega (arith, c.n-n.ensures) in
     let at = c.requires c.loop-q.q low in
@@ -18,14 +18,14 @@ returns-in-Some g c =
     let few = c.args.hosts.now.few in
     record {
       value = sym (found_at (replayable (g.L.Logger.found c.args.logger.now) (members c.args.returning) (look g.W.Workload c.args.hosts.now))
-          c.args.hosts.now.n c.loop-q.q c.in-Some.message c.loop-q.invariant (sym c.next-of-next.ensures.value ∙ c.in-Some.is) (omega (arith, c.n-n.ensures)));
+          c.args.hosts.now.n c.loop-q.q c.in-Some.message c.loop-q.invariant (sym c.next_of-next.ensures.value ∙ c.in-Some.is) (omega (arith, c.n-n.ensures)));
       room = (omega (arith, c.n-n.ensures), c.in-Some.ensures.room);
     }
 
 pub loop-q-preserved : goal.loop-q-preserved
 loop-q-preserved g c =
     none_more (replayable (g.L.Logger.found c.args.logger.now) (members c.args.returning) (look g.W.Workload c.args.hosts.now))
-    c.loop-q.q c.loop-q.invariant (sym c.next-of-next.ensures.value ∙ c.in-default.is)
+    c.loop-q.q c.loop-q.invariant (sym c.next_of-next.ensures.value ∙ c.in_default.is)
 
 pub returns : goal.returns
 returns g c =

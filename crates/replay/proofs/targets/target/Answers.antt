@@ -5,13 +5,13 @@ use Rattle.replay.proofs.targets.target.Goals as goal
 pub loop-found-preserved : goal.loop-found-preserved
 loop-found-preserved g c =
     let found = g.L.Logger.found c.args.logger.now c.args.q in
-    let here : is_some (found (c.loop-found.found + 1)) ≡ true = ap (is_some {T = ℕ × ℕ}) (sym c.find.ensures) ∙ sym c.if-is-some.ensures in
+    let here : is_some (found (c.loop-found.found + 1)) ≡ true = ap (is_some {T = ℕ × ℕ}) (sym c.find.ensures) ∙ sym c.if-is_some.ensures in
     (sym (reach_more found c.loop-found.found c.loop-found-test.true here) ∙ c.loop-found.invariant.0, omega arith)
 
-pub returns-else-is-some : goal.returns-else-is-some
-returns-else-is-some g c =
+pub returns-else-is_some : goal.returns-else-is_some
+returns-else-is_some g c =
     let found = g.L.Logger.found c.args.logger.now c.args.q in
-    let here : is_some (found (c.loop-found.found + 1)) ≡ false = ap (is_some {T = ℕ × ℕ}) (sym c.find.ensures) ∙ sym c.if-is-some.ensures in
+    let here : is_some (found (c.loop-found.found + 1)) ≡ false = ap (is_some {T = ℕ × ℕ}) (sym c.find.ensures) ∙ sym c.if-is_some.ensures in
     record {
       value = sym (reach_stops found c.loop-found.found c.loop-found-test.true here) ∙ c.loop-found.invariant.0;
       few = c.loop-found.invariant.1;

@@ -9,13 +9,13 @@ use Rattle.cluster.specs.View.{system}
 use Rattle.calls.proofs.Playing.{open_refused, open_accepted, trace_more, calls_kept, made_all}
 use Rattle.cluster.proofs.cluster.Cluster.play.Goals as goal
 
-pub returns-in-err-opened : goal.returns-in-err-opened
-returns-in-err-opened g c =
-    let e = err_from_is_err_and c.from-residual.result c.from-residual.ensures.1 in
+pub returns-in_err-opened : goal.returns-in_err-opened
+returns-in_err-opened g c =
+    let e = err_from_is_err_and c.from_residual.result c.from_residual.ensures.1 in
     let a = system g.W.Workload c.args.self.now in
     let b = system g.W.Workload c.open.new.self in
     let o = open_refused g.L.Logger g.W.Workload.machine c.args.n c.args.f a b _
-    (subst (λ (r : Answer). Opened g.L.Logger g.W.Workload.machine a c.args.n c.args.f r b) c.in-err-opened.was c.open.ensures) in
+    (subst (λ (r : Answer). Opened g.L.Logger g.W.Workload.machine a c.args.n c.args.f r b) c.in_err-opened.was c.open.ensures) in
     rw (e.1, e.2) (o.0, refl, o.1)
 
 pub loop-made-init : goal.loop-made-init
@@ -23,7 +23,7 @@ loop-made-init g c =
     let a = system g.W.Workload c.args.self.now in
     let b = system g.W.Workload c.open.new.self in (
       (open_accepted g.L.Logger g.W.Workload.machine c.args.n c.args.f a b _
-          (subst (λ (r : Answer). Opened g.L.Logger g.W.Workload.machine a c.args.n c.args.f r b) c.in-ok-opened.was c.open.ensures)).2,
+          (subst (λ (r : Answer). Opened g.L.Logger g.W.Workload.machine a c.args.n c.args.f r b) c.in_ok-opened.was c.open.ensures)).2,
       refl,
     )
 
@@ -43,7 +43,7 @@ returns g c =
     let a = system g.W.Workload c.args.self.now in
     let b = system g.W.Workload c.loop-made.self in
     let o = open_accepted g.L.Logger machine c.args.n c.args.f a (system g.W.Workload c.open.new.self) _
-    (subst (λ (r : Answer). Opened g.L.Logger machine a c.args.n c.args.f r (system g.W.Workload c.open.new.self)) c.in-ok-opened.was c.open.ensures) in (
+    (subst (λ (r : Answer). Opened g.L.Logger machine a c.args.n c.args.f r (system g.W.Workload c.open.new.self)) c.in_ok-opened.was c.open.ensures) in (
       o.0,
       o.1,
       made_all g.L.Logger (record { begins = met.begins; lawful = met.lawful; finds = met.finds; misses = met.misses }) machine c.args.n c.args.f c.args.calls.now

@@ -3,10 +3,10 @@ use Rattle.records.specs.Bounded.{listed}
 use Rattle.records.proofs.Indexes.{body_there, never_lacks, none_more}
 use Rattle.records.proofs.record.HostRecord.sent_to.Goals as goal
 
-pub returns-in-default : goal.returns-in-default
-returns-in-default c =
+pub returns-in_default : goal.returns-in_default
+returns-in_default c =
     let r = c.args.self.now in
-    sym (none_more r.sent.counts r.sent.places (listed r.sends) r.sent_counted r.sent_within r.sent_placed c.args.p c.args.i c.requires c.in-default.ensures)
+    sym (none_more r.sent.counts r.sent.places (listed r.sends) r.sent_counted r.sent_within r.sent_placed c.args.p c.args.i c.requires c.in_default.ensures)
 
 pub returns-in-Some-get : goal.returns-in-Some-get
 returns-in-Some-get c =

@@ -8,7 +8,7 @@ pub returns : goal.returns
 returns c =
     let here = read_at lists no_lists c.args.self.now.records c.args.p (search rules) c.index-all-p.result c.index-all-p.is in
     record {
-      value = c.received-from.ensures.value ∙ ap (λ (l : Lists). count_from c.args.s l.receipts) (sym here);
-      few = c.received-from.ensures.few;
-      low = subst (λ (l : Lists). c.received-from.result ≤ length l.receipts) (sym here) c.received-from.ensures.low;
+      value = c.received_from.ensures.value ∙ ap (λ (l : Lists). count_from c.args.s l.receipts) (sym here);
+      few = c.received_from.ensures.few;
+      low = subst (λ (l : Lists). c.received_from.result ≤ length l.receipts) (sym here) c.received_from.ensures.low;
     }

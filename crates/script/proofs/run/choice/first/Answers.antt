@@ -6,5 +6,5 @@ use Rattle.script.proofs.run.choice.first.Goals as goal
 
 pub returns : goal.returns
 returns c =
-    c.opening.ensures ∙ ap opening_read (ap (λ (o : Option Command). heard (Ok o)) (sym c.in-Some.is) ∙ c.in-ok-command.ensures.value)
+    c.opening.ensures ∙ ap opening_read (ap (λ (o : Option Command). heard (Ok o)) (sym c.in-Some.is) ∙ c.in_ok-command.ensures.value)
     ∙ first_in_bounds c.args.script.now c.new.result.script.now c.args.listing.now c.new.result.at (ap (λ x. x.now) c.new.ensures.script) c.new.ensures.at (omega arith) (omega arith)

@@ -14,5 +14,5 @@ pub returns-in-Err : goal.returns-in-Err
 returns-in-Err c =
     let s = c.args.script.now in
     let xs = c.args.listing.now in
-    let runs = subst (λ (r : Ran). RunsRead (first_read s xs) s xs (left c.play-read.new.listing r)) (sym c.stopped.ensures) c.in-Err.ensures.runs in
+    let runs = subst (λ (r : Ran). RunsRead (first_read s xs) s xs (left c.play_read.new.listing r)) (sym c.stopped.ensures) c.in-Err.ensures.runs in
     record { value = read_left s xs _ runs; guaranteed = runs; within = omega (arith, ap (λ (r : Ran). r.written) c.stopped.ensures) }

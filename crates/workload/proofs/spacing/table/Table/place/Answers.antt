@@ -5,9 +5,9 @@ use Rattle.workload.proofs.Steady.{steady_set}
 use Rattle.workload.proofs.Tables.{written}
 use Rattle.workload.proofs.spacing.table.Table.place.Goals as goal
 
-pub invariant-of-self : goal.invariant-of-self
-invariant-of-self c =
-    (search rules, (steady_set c.args.self.now.hosts c.args.p c.place.result (search rules) c.args.self.now.steady c.place.ensures.steady, tt))
+pub invariant_of-self : goal.invariant_of-self
+invariant_of-self c =
+    record { eight = search rules; steady = steady_set c.args.self.now.hosts c.args.p c.place.result (search rules) c.args.self.now.steady c.place.ensures.steady }
 
 pub returns : goal.returns
 returns c = written c.args.self.now.hosts _ c.args.p c.place.result _ at_margin refl (search (rules, get_or_read)) (search rules)
