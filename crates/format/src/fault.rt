@@ -5,7 +5,7 @@ ghost use Rattle.format.specs.declared.fault.RunFault.TheVariants.{Reader, Clust
 use network::refusal::Refusal;
 
 /// Why a script cannot be read on: the first of the reader's checks that fails. They go on from those of the cluster.
-#[derive(Clone, Copy)]
+#[derive(Clone, Copy, PartialEq, Eq, Debug)]
 pub enum ReadFault {
     /// The script and the listing have at most 65,536 bytes each.
     TooLong = 15,
@@ -29,7 +29,7 @@ impl ReadFault {
 }
 
 /// Why a line is not written.
-#[derive(Clone, Copy)]
+#[derive(Clone, Copy, PartialEq, Eq, Debug)]
 pub enum ListFault {
     /// The whole line fits.
     Full = 20,

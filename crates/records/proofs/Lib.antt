@@ -1,3 +1,3 @@
 pub mod Lists
-pub mod Indexes
+pub mod Sends
 pub mod Views

@@ -5,4 +5,3 @@ mod bounded;
 pub mod by_host;
 mod record;
 pub mod records;
-mod send_index;

@@ -17,7 +17,7 @@ use Rattle.format.specs.declared.fault.ReadFault.{ReadFault}
 use Rattle.format.specs.declared.fault.ReadFault.TheVariants.{TooLong}
 use Rattle.format.specs.declared.fault.RunFault.{RunFault}
 use Rattle.script.specs.Choice.{RunsChosen, RunsRead}
-use Rattle.format.specs.Reader.{reading, opening_read}
+use Rattle.format.specs.Reader.{opening_at}
 use Rattle.script.specs.Run.{Left, chosen, if_read, in_bounds, first_read, whole_within, whole}
 use Rattle.script.proofs.Exactly.{FollowsRules, runs_left}
 
@@ -39,18 +39,18 @@ by_choice l l' w w' n f s xs p e g R =
     subst (λ (x : LoggerChoice). RunsChosen x w n f s xs p) (sym e) (subst (λ (x : WorkloadChoice). RunsChosen l' x n f s xs p) (sym g) R)
 
 -- what is read first, where nothing is too long
-pub first_in_bounds : (s s' xs : List ℕ) (i : ℕ) → s' ≡ s → i ≡ 0 → length s ≤ 65536 → length xs ≤ 65536 → opening_read (reading s' i) ≡ first_read s xs
+pub first_in_bounds : (s s' xs : List ℕ) (i : ℕ) → s' ≡ s → i ≡ 0 → length s ≤ 65536 → length xs ≤ 65536 → opening_at s' i ≡ first_read s xs
 first_in_bounds s s' xs i e f g h =
-    ap (λ (z : List ℕ). opening_read (reading z i)) e ∙ ap (λ (k : ℕ). opening_read (reading s k)) f
-    ∙ sym (cond-true (in_bounds s xs) (opening_read (reading s 0)) (Err TooLong) both)
+    ap (λ (z : List ℕ). opening_at z i) e ∙ ap (opening_at s) f ∙ sym (cond-true (in_bounds s xs) (opening_at s 0) (Err TooLong) both)
   where
     both : (leb (length s) 65536 && leb (length xs) 65536) ≡ true
     both = simp (le-leb (length s) 65536 g, le-leb (length xs) 65536 h)
 
 -- what is left, by what is read first
-pub read_left : (s xs : List ℕ) (p : Left) → RunsRead (first_read s xs) s xs p → p ≡ whole s xs
+pub read_left : (o : Result Opening ReadFault) (s xs : List ℕ) (p : Left) → RunsRead o s xs p → o ≡ first_read s xs → (p ≡ whole s xs) × RunsRead (first_read s xs) s xs p
 unfolding whole_within
-read_left s xs p R = go (first_read s xs) R
+read_left o s xs p R e =
+    (go o R ∙ ap (λ (r : Result Opening ReadFault). if_read r (suc (length s)) s xs) e, subst (λ (r : Result Opening ReadFault). RunsRead r s xs p) e R)
   where
     go : (r : Result Opening ReadFault) → RunsRead r s xs p → p ≡ if_read r (suc (length s)) s xs
     go (Ok x) R = chosen_left x.logger x.workload x.n x.f s xs p R

@@ -11,18 +11,17 @@ use Rattle.format.specs.declared.fault.RunFault.{RunFault}
 use Rattle.script.specs.declared.run.Ran.{Ran}
 use Rattle.script.specs.Course.{listed, Turned, Listed, Reached, Ended, Finished}
 use Rattle.format.specs.Lines.{placed, ending}
-use Rattle.format.specs.Commands.{Asked, an_open, a_call}
-use Rattle.format.specs.Reader.{reading, call_read, call_at, past, size}
+use Rattle.format.specs.Reader.{reading, past, size}
 use Rattle.script.specs.Run.{Left, left, ends, stopping, stops, call_line}
 use Rattle.format.proofs.Endings.{ending_within, placed_full}
 
 -- a command is read only within the script
-pub inside : (s : List ℕ) (i : ℕ) (c : Call) → call_at s i ≡ Ok (Some c) → i < length s
+pub inside : (s : List ℕ) (i : ℕ) (c : Call) → reading s i ≡ Ok (Some c) → i < length s
 inside s i c e =
     elim (cases_lt i (length s)) [
       | inl l ↦ l
       | inr l ↦
-          let none : call_at s i ≡ Ok None = ap call_read (cond-false (ltb i (length s)) _ _ (le-ltb i (length s) l)) in
+          let none : reading s i ≡ Ok None = cond-false (ltb i (length s)) _ _ (le-ltb i (length s) l) in
           let z : ◌≡◌ {A = ℕ} 0 1 = cc in
           absurd (omega arith)
     ]
@@ -40,18 +39,6 @@ not_put : (o : Result ℕ ListFault) (f : RunFault) → Err f ≡ listed o → (
 not_put (Ok x) f h = let z : ◌≡◌ {A = ℕ} 0 1 = cc in absurd (omega arith)
 not_put (Err e) f h = (e, refl, cc)
 
--- a turn that lists a command reads on past it
-pub goes_further :
-    {L S : Type 0} (log : logger.Ghosts L) (a b : System S L) (xs ys : List ℕ) (k w : ℕ) (s : List ℕ) (i j : ℕ) (r : Result (Option ℕ) RunFault) (end : ℕ)
-    → Turned log (call_at s i) k xs w a r ys b → Ok (Some end) ≡ r → j ≡ past i (reading s i) → (i < j) × (i < length s)
-goes_further log a b xs ys k w s i j r end T e p = go (reading s i) refl T p
-  where
-    go : (h : Result (Option Asked) ReadFault) → reading s i ≡ h → Turned log (call_read h) k xs w a r ys b → j ≡ past i h → (i < j) × (i < length s)
-    go (Ok None) q T p = let f = T.0 in let z : ◌≡◌ {A = ℕ} 0 1 = cc in absurd (omega arith)
-    go (Err x) q T p = let f = T.0 in let z : ◌≡◌ {A = ℕ} 0 1 = cc in absurd (omega arith)
-    go (Ok (Some (an_open b))) q T p = let f = T.0 in let z : ◌≡◌ {A = ℕ} 0 1 = cc in absurd (omega arith)
-    go (Ok (Some (a_call c))) q T p = (omega arith, inside s i c (ap call_read q))
-
 module _ {L S : Type 0} (log : logger.Ghosts L) (s : List ℕ) (a₀ : System S L) (i₀ k₀ : ℕ) (xs₀ : List ℕ) (w₀ : ℕ)
     (t : List Made) (a b : System S L) (i k w : ℕ) (xs ys : List ℕ) (R : Reached log s a₀ i₀ k₀ xs₀ w₀ t a i k xs w) where
   -- one turn more
@@ -60,46 +47,47 @@ module _ {L S : Type 0} (log : logger.Ghosts L) (s : List ℕ) (a₀ : System S 
     pub reached : Reached log s a₀ i₀ k₀ xs₀ w₀ calls b j (k + 1) ys end
     pub within : end ≤ length xs
     pub further : i < j
+    pub in_script : i < length s
 
-  pub more : (s' : List ℕ) (r : Result (Option ℕ) RunFault) (end j : ℕ) → s' ≡ s → Turned log (call_at s' i) k xs w a r ys b → Ok (Some end) ≡ r
+  pub more : (s' : List ℕ) (r : Result (Option ℕ) RunFault) (end j : ℕ) → s' ≡ s → Turned log (reading s' i) k xs w a r ys b → Ok (Some end) ≡ r
       → j ≡ past i (reading s' i) → More end j
   more s' r end j same T e p = go (reading s' i) (ap (λ (z : List ℕ). reading z i) (sym same)) T p
     where
-      go : (h : Result (Option Asked) ReadFault) → reading s i ≡ h → Turned log (call_read h) k xs w a r ys b → j ≡ past i h → More end j
+      go : (h : Result (Option Call) ReadFault) → reading s i ≡ h → Turned log h k xs w a r ys b → j ≡ past i h → More end j
       go (Ok None) q T p = let f = T.0 in let z : ◌≡◌ {A = ℕ} 0 1 = cc in absurd (omega arith)
       go (Err x) q T p = let f = T.0 in let z : ◌≡◌ {A = ℕ} 0 1 = cc in absurd (omega arith)
-      go (Ok (Some (an_open b))) q T p = let f = T.0 in let z : ◌≡◌ {A = ℕ} 0 1 = cc in absurd (omega arith)
-      go (Ok (Some (a_call c))) q T p =
+      go (Ok (Some c)) q T p =
           let line = call_line k c T.answer in
           let put = put_some (ending xs w line) end (e ∙ T.value) in
-          let q' : call_at s i ≡ Ok (Some c) = ap call_read q in
+          let l = inside s i c q in
           record {
             calls = t ++ (record { call = c; answer = T.answer } ∷ []);
             reached = subst (λ (n : ℕ). Reached log s a₀ i₀ k₀ xs₀ w₀ (t ++ (record { call = c; answer = T.answer } ∷ [])) b n (k + 1) ys end) (sym p)
                 (subst (λ (zs : List ℕ). Reached log s a₀ i₀ k₀ xs₀ w₀ (t ++ (record { call = c; answer = T.answer } ∷ [])) b (i + 1 + size c) (k + 1) zs end) (sym T.listing)
-                (Reached.then {x = record { call = c; answer = T.answer }} R q' T.call put));
+                (Reached.then {x = record { call = c; answer = T.answer }} R q T.call put));
             within = ending_within xs line w end (sym put);
             further = omega arith;
+            in_script = l;
           }
 
   -- the last turn, at the script's end
-  pub comes_to_end : (s' : List ℕ) (r : Result (Option ℕ) RunFault) → s' ≡ s → Turned log (call_at s' i) k xs w a r ys b → Ok None ≡ r
+  pub comes_to_end : (s' : List ℕ) (r : Result (Option ℕ) RunFault) → s' ≡ s → Turned log (reading s' i) k xs w a r ys b → Ok None ≡ r
       → Finished log s a₀ i₀ k₀ xs₀ w₀ (ends ys w)
-  comes_to_end s' r same T e = go (call_at s' i) (ap (λ (z : List ℕ). call_at z i) (sym same)) T
+  comes_to_end s' r same T e = go (reading s' i) (ap (λ (z : List ℕ). reading z i) (sym same)) T
     where
-      go : (h : Result (Option Call) ReadFault) → call_at s i ≡ h → Turned log h k xs w a r ys b → Finished log s a₀ i₀ k₀ xs₀ w₀ (ends ys w)
+      go : (h : Result (Option Call) ReadFault) → reading s i ≡ h → Turned log h k xs w a r ys b → Finished log s a₀ i₀ k₀ xs₀ w₀ (ends ys w)
       go (Ok None) q T =
           record { calls = t; system = a; ended = subst (λ (zs : List ℕ). Ended log s a₀ i₀ k₀ xs₀ w₀ t a (ends zs w)) (sym T.1) (Ended.over R q) }
       go (Err x) q T = let f = T.0 in let z : ◌≡◌ {A = ℕ} 0 1 = cc in absurd (omega arith)
       go (Ok (Some c)) q T = absurd (never_none (ending xs w (call_line k c T.answer)) (e ∙ T.value))
 
   -- the last turn, at a stop
-  pub comes_to_stop : (s' : List ℕ) (r : Result (Option ℕ) RunFault) (f : RunFault) (ran : Ran) → s' ≡ s → Turned log (call_at s' i) k xs w a r ys b → Err f ≡ r
+  pub comes_to_stop : (s' : List ℕ) (r : Result (Option ℕ) RunFault) (f : RunFault) (ran : Ran) → s' ≡ s → Turned log (reading s' i) k xs w a r ys b → Err f ≡ r
       → ran ≡ stopping w f k i → Finished log s a₀ i₀ k₀ xs₀ w₀ (left ys ran)
   comes_to_stop s' r f ran same T e is =
-      subst (λ (x : Ran). Finished log s a₀ i₀ k₀ xs₀ w₀ (left ys x)) (sym is) (go (call_at s' i) (ap (λ (z : List ℕ). call_at z i) (sym same)) T)
+      subst (λ (x : Ran). Finished log s a₀ i₀ k₀ xs₀ w₀ (left ys x)) (sym is) (go (reading s' i) (ap (λ (z : List ℕ). reading z i) (sym same)) T)
     where
-      go : (h : Result (Option Call) ReadFault) → call_at s i ≡ h → Turned log h k xs w a r ys b → Finished log s a₀ i₀ k₀ xs₀ w₀ (stops ys w f k i)
+      go : (h : Result (Option Call) ReadFault) → reading s i ≡ h → Turned log h k xs w a r ys b → Finished log s a₀ i₀ k₀ xs₀ w₀ (stops ys w f k i)
       go (Ok None) q T = let g = T.0 in let z : ◌≡◌ {A = ℕ} 0 1 = cc in absurd (omega arith)
       go (Err x) q T =
           let g = T.0 in

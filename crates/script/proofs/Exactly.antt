@@ -10,25 +10,25 @@ use Rattle.calls.specs.declared.call.Made.{Made}
 use Rattle.calls.specs.Calls.{Answer, System, Follows, Called, checks, done, made, if_accepted, open_checks}
 use Rattle.calls.specs.Cluster.{Cluster, opened}
 use Rattle.calls.specs.Recovery.{Finder}
-use Rattle.script.specs.Exact.{Exact, all_after, outcome, operations, called}
+use Rattle.script.specs.Exact.{Exact, all_after}
 use Rattle.format.specs.declared.fault.ListFault.{ListFault}
 use Rattle.format.specs.declared.fault.ReadFault.{ReadFault}
 use Rattle.format.specs.declared.fault.RunFault.{RunFault}
 use Rattle.script.specs.Course.{Reached, Ended, Goes_on, IfOpened, Runs}
 use Rattle.format.specs.Lines.{placed, ending}
-use Rattle.format.specs.Reader.{call_at, size}
-use Rattle.script.specs.Run.{Left, ends, stops, open_line, call_line, go_on, if_opened, turn, plays, plays_opened, runs}
+use Rattle.format.specs.Reader.{reading, size}
+use Rattle.script.specs.Run.{Left, ends, stops, open_line, call_line, outcome, operations, called, go_on, if_opened, turn, plays, plays_opened, runs}
 use Rattle.script.proofs.Courses.{inside}
 use Rattle.script.proofs.Turns.{same_turns}
 
 -- one turn of the definition, over what was read
 module _ {S M : Type 0} (rules : Exact M) (m : ℕ) (s : List ℕ) (i k : ℕ) (xs : List ℕ) (w : ℕ) (a : System S M) where
-  on_read : (h : Result (Option Call) ReadFault) → call_at s i ≡ h → plays rules (suc m) s i k xs w a ≡ turn rules h (plays rules m s) i k xs w a
+  on_read : (h : Result (Option Call) ReadFault) → reading s i ≡ h → plays rules (suc m) s i k xs w a ≡ turn rules h (plays rules m s) i k xs w a
   unfolding plays
   on_read h e = ap (λ (r : Result (Option Call) ReadFault). turn rules r (plays rules m s) i k xs w a) e
 
   on_listed :
-      (c : Call) (r : Answer) (b : System S M) (o : Result ℕ ListFault) → call_at s i ≡ Ok (Some c) → called rules a c ≡ (r, b) → ending xs w (call_line k c r) ≡ o
+      (c : Call) (r : Answer) (b : System S M) (o : Result ℕ ListFault) → reading s i ≡ Ok (Some c) → called rules a c ≡ (r, b) → ending xs w (call_line k c r) ≡ o
       → plays rules (suc m) s i k xs w a
       ≡ go_on o (λ end. plays rules m s (i + 1 + size c) (k + 1) (placed xs w (call_line k c r)) end b) (λ e. stops xs w (RunFault.Listing e) k i)
   on_listed c r b o e q p =

@@ -13,9 +13,10 @@ use Rattle.calls.proofs.Playing.{made_all}
 use Rattle.calls.proofs.Laws.{Laws}
 use Rattle.format.specs.declared.fault.ListFault.{ListFault}
 use Rattle.format.specs.declared.fault.RunFault.{RunFault}
+use Rattle.script.specs.declared.run.Ran.{Ran}
 use Rattle.script.specs.Course.{OpenListed, first_listed, open_value, open_listing, Reached, Ended, Finished, Goes_on, IfOpened, Runs}
 use Rattle.format.specs.Lines.{placed, ending}
-use Rattle.script.specs.Run.{Left, stops, open_line}
+use Rattle.script.specs.Run.{Left, left, stopping, stops, open_line}
 use Rattle.format.proofs.Endings.{placed_full}
 
 module _ {L S : Type 0} (log : logger.Ghosts L) (m : Machine S) (n f : ℕ) (s : List ℕ) (a₀ : System S L) (i₀ k₀ : ℕ) (xs₀ : List ℕ) (w₀ : ℕ)
@@ -81,8 +82,10 @@ module _ {L S : Type 0} (log : logger.Ghosts L) (laws : Laws log) (machine : ℕ
           absurd (omega arith)
 
   -- the open is refused, or its line does not fit
-  pub stops_at_once : (fault : RunFault) → OpenListed log machine n f before a (Err fault) ys b → Runs log machine n f s before (stops ys 0 fault 1 0)
-  stops_at_once fault O = go (checked (open_checks n f)) refl (O.call.cluster, O.call.logger)
+  pub stops_at_once : (fault : RunFault) (ran : Ran) → OpenListed log machine n f before a (Err fault) ys b → ran ≡ stopping 0 fault 1 0
+      → Runs log machine n f s before (left ys ran)
+  stops_at_once fault ran O is =
+      subst (λ (r : Ran). Runs log machine n f s before (left ys r)) (sym is) (go (checked (open_checks n f)) refl (O.call.cluster, O.call.logger))
     where
       same : (e : RunFault) → ys ≡ before → fault ≡ e → stops ys 0 fault 1 0 ≡ stops before 0 e 1 0
       same e h k = cc

@@ -7,7 +7,7 @@ use Rattle.network.specs.Checks.{checked}
 use Rattle.calls.specs.declared.call.Call.{Call}
 use Rattle.calls.specs.Calls.{System, open_checks}
 use Rattle.calls.specs.Cluster.{opened}
-use Rattle.script.specs.Exact.{Exact, pessimistic_logging, family_based_logging, called}
+use Rattle.script.specs.Exact.{Exact, pessimistic_logging, family_based_logging}
 use Rattle.format.specs.declared.command.Opening.{Opening}
 use Rattle.format.specs.declared.command.LoggerChoice.{LoggerChoice}
 use Rattle.format.specs.declared.command.LoggerChoice.TheVariants.{Pessimistic, FamilyBased}
@@ -16,8 +16,8 @@ use Rattle.format.specs.declared.command.WorkloadChoice.TheVariants.{Ledger, Spa
 use Rattle.format.specs.declared.fault.ReadFault.{ReadFault}
 use Rattle.format.specs.declared.fault.RunFault.{RunFault}
 use Rattle.format.specs.Lines.{placed, ending}
-use Rattle.format.specs.Reader.{call_at, size}
-use Rattle.script.specs.Run.{Left, stops, open_line, call_line, go_on, if_opened, turn, plays, plays_opened, runs, chosen, if_read, first_read, whole_within, EndsByItself}
+use Rattle.format.specs.Reader.{reading, size}
+use Rattle.script.specs.Run.{Left, stops, open_line, call_line, called, go_on, if_opened, turn, plays, plays_opened, runs, chosen, if_read, first_read, whole_within, EndsByItself}
 use Rattle.script.proofs.Courses.{inside}
 
 module _ {S M : Type 0} (rules : Exact M) where
@@ -39,7 +39,7 @@ module _ {S M : Type 0} (rules : Exact M) where
   same_turns zero n s i k xs w a p q = absurd (omega arith)
   same_turns (suc m) zero s i k xs w a p q = absurd (omega arith)
   same_turns (suc m) (suc n) s i k xs w a p q =
-      alike (call_at s i) (plays rules m s) (plays rules n s) i k xs w a
+      alike (reading s i) (plays rules m s) (plays rules n s) i k xs w a
       (λ c e ys end b. let l = inside s i c e in same_turns m n s (i + 1 + size c) (k + 1) ys end b (omega arith) (omega arith))
 
   same_runs : (machine : ℕ → Machine S) (n f : ℕ) (s xs : List ℕ) (more : ℕ) → runs rules (suc (length s) + more) machine n f s xs ≡ runs rules (suc (length s)) machine n f s xs

@@ -14,8 +14,7 @@ use Rattle.format.specs.declared.fault.ListFault.{ListFault}
 use Rattle.format.specs.declared.fault.ReadFault.{ReadFault}
 use Rattle.format.specs.declared.fault.RunFault.{RunFault}
 use Rattle.format.specs.Lines.{placed, ending}
-use Rattle.format.specs.Commands.{letter}
-use Rattle.format.specs.Reader.{call_at, size}
+use Rattle.format.specs.Reader.{reading, size}
 use Rattle.script.specs.Run.{Left, ends, stops, first_line, open_line, call_line, past_open}
 
 -- THE FIRST TURN, over the answer of the open: where its line ends, and the listing
@@ -35,17 +34,6 @@ open_listing (Err e) xs = xs
 abbrev pub EndsWithin : Result ℕ RunFault → ℕ → Type 0
 EndsWithin (Ok end) size = end ≤ size
 EndsWithin (Err e) size = Unit {0}
-
--- WHAT A TURN READS: a letter and the call that it stands for
-abbrev pub call_of : Result (Option (ℕ × Call)) ReadFault → Result (Option Call) ReadFault
-call_of (Ok None) = Ok None
-call_of (Ok (Some x)) = Ok (Some x.1)
-call_of (Err e) = Err e
-
-abbrev pub Lettered : Result (Option (ℕ × Call)) ReadFault → Type 0
-Lettered (Ok None) = Unit {0}
-Lettered (Ok (Some x)) = x.0 ≡ letter x.1
-Lettered (Err e) = Unit {0}
 
 -- what a turn answers once its line is put, or not: where the line ends
 abbrev pub listed : Result ℕ ListFault → Result (Option ℕ) RunFault
@@ -77,17 +65,17 @@ module _ {L S : Type 0} (log : logger.Ghosts L) (s : List ℕ) (a₀ : System S 
   -- the listing, and how much of it is written
   pub data Reached : List Made → System S L → ℕ → ℕ → List ℕ → ℕ → Type 0 where
     start : Reached [] a₀ i₀ k₀ xs₀ w₀
-    then : {t : List Made} {a b : System S L} {i k w end : ℕ} {xs : List ℕ} {x : Made} → Reached t a i k xs w → call_at s i ≡ Ok (Some x.call)
+    then : {t : List Made} {a b : System S L} {i k w end : ℕ} {xs : List ℕ} {x : Made} → Reached t a i k xs w → reading s i ≡ Ok (Some x.call)
         → Called log a x.call x.answer b → ending xs w (call_line k x.call x.answer) ≡ Ok end
         → Reached (t ++ (x ∷ [])) b (i + 1 + size x.call) (k + 1) (placed xs w (call_line k x.call x.answer)) end
 
   -- HOW THEY END: at the script's end, at a fault of the reader, or at a line that does not fit, after its call was made
   pub data Ended : List Made → System S L → Left → Type 0 where
-    over : {t : List Made} {a : System S L} {i k w : ℕ} {xs : List ℕ} → Reached t a i k xs w → call_at s i ≡ Ok None → Ended t a (ends xs w)
-    unread : {t : List Made} {a : System S L} {i k w : ℕ} {xs : List ℕ} {e : ReadFault} → Reached t a i k xs w → call_at s i ≡ Err e
+    over : {t : List Made} {a : System S L} {i k w : ℕ} {xs : List ℕ} → Reached t a i k xs w → reading s i ≡ Ok None → Ended t a (ends xs w)
+    unread : {t : List Made} {a : System S L} {i k w : ℕ} {xs : List ℕ} {e : ReadFault} → Reached t a i k xs w → reading s i ≡ Err e
         → Ended t a (stops xs w (RunFault.Reader e) k i)
     unlisted : {t : List Made} {a b : System S L} {i k w : ℕ} {xs : List ℕ} {x : Made} {e : ListFault} → Reached t a i k xs w
-        → call_at s i ≡ Ok (Some x.call) → Called log a x.call x.answer b → ending xs w (call_line k x.call x.answer) ≡ Err e
+        → reading s i ≡ Ok (Some x.call) → Called log a x.call x.answer b → ending xs w (call_line k x.call x.answer) ≡ Err e
         → Ended (t ++ (x ∷ [])) b (stops xs w (RunFault.Listing e) k i)
 
   -- with some calls and some system at the end

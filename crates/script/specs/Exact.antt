@@ -1,14 +1,13 @@
 -- A cluster over a logger whose operations are functions of what it keeps, as those of the shipped loggers are: calls can be computed.
 use Rattle.std.specs.Prelude.{ℕ, List, [], ◌∷◌}
-use Rattle.workload.specs.Machine.{Machine}
 use Rattle.network.specs.Checks.{checked, unless_refused}
 use Rattle.loggers.specs.FamilyBased as family
 use Rattle.logger.specs.Operation.{Operation}
 use Rattle.loggers.specs.Pessimistic as pessimistic
 use Rattle.logger.specs.Sources.{pair}
 use Rattle.calls.specs.declared.call.Call.{Call}
-use Rattle.calls.specs.Calls.{Answer, System, checks, done, made, if_accepted}
-use Rattle.calls.specs.Cluster.{Cluster, opened}
+use Rattle.calls.specs.Calls.{Answer, checks, done, made, if_accepted}
+use Rattle.calls.specs.Cluster.{Cluster}
 use Rattle.calls.specs.Recovery.{Finder}
 
 -- what it keeps when it has just started, what an operation makes of that, and what is found in it
@@ -25,21 +24,12 @@ family_based_logging = record { fresh = family.fresh; after = family.after; foun
 
 -- the operations, one after the other
 abbrev pub all_after : {M : Type 0} → Exact M → List Operation → M → M
-all_after rules [] l = l
-all_after rules (op ∷ ops) l = all_after rules ops (rules.after op l)
+all_after log [] l = l
+all_after log (op ∷ ops) l = all_after log ops (log.after op l)
 
-module _ {S M : Type 0} (rules : Exact M) where
-  -- the answer of a call made at a, and the cluster after it
-  abbrev pub outcome : System S M → Call → Answer × Cluster S
-  outcome a c = unless_refused (checked (checks a.cluster c)) a.cluster (done (rules.found a.logger) a.cluster c)
-
-  abbrev pub operations : System S M → Call → List Operation
-  operations a c = if_accepted (checked (checks a.cluster c)) (made (rules.found a.logger) a.cluster c)
-
-  -- A CALL: its answer, and the cluster and the logger after it
-  unfoldable pub called : System S M → Call → Answer × System S M
-  called a c = ((outcome a c).0, record { cluster = (outcome a c).1; logger = all_after rules (operations a c) a.logger })
-
-  -- a cluster that was just opened
-  abbrev pub opening : Machine S → ℕ → ℕ → System S M
-  opening m n f = record { cluster = opened m n f; logger = rules.fresh n f }
+-- the answers of calls made one after the other
+abbrev pub answers : {S M : Type 0} → Exact M → Cluster S → M → List Call → List Answer
+answers log c l [] = []
+answers log c l (x ∷ xs) =
+    let r = unless_refused (checked (checks c x)) c (done (log.found l) c x) in
+    r.0 ∷ answers log r.1 (all_after log (if_accepted (checked (checks c x)) (made (log.found l) c x)) l) xs

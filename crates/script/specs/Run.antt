@@ -1,13 +1,15 @@
 -- What a run leaves, computed from the script and the listing alone.
-use Rattle.std.specs.Prelude.{◌≡◌, ℕ, zero, suc, ◌+◌, ◌*◌, ◌^◌, ◌≤◌, Bool, cond, ◌&&◌, List, length, Some, None, Ok, Err, Option, Result, nat_le}
+use Rattle.std.specs.Prelude.{◌≡◌, ℕ, zero, suc, ◌+◌, ◌*◌, ◌^◌, Bool, cond, ◌&&◌, List, length, Some, None, Ok, Err, Option, Result, nat_le}
 use Rattle.workload.specs.Machine.{Machine}
 use Rattle.workload.specs.Ledger.{ledger}
 use Rattle.workload.specs.Spacing.{spacing}
 use Rattle.network.specs.declared.refusal.Refusal.{Refusal}
-use Rattle.network.specs.Checks.{checked}
+use Rattle.network.specs.Checks.{checked, unless_refused}
+use Rattle.logger.specs.Operation.{Operation}
 use Rattle.calls.specs.declared.call.Call.{Call}
-use Rattle.calls.specs.Calls.{Answer, System, open_checks}
-use Rattle.script.specs.Exact.{Exact, pessimistic_logging, family_based_logging, called, opening}
+use Rattle.calls.specs.Calls.{Answer, System, checks, done, made, if_accepted, open_checks}
+use Rattle.calls.specs.Cluster.{Cluster, opened}
+use Rattle.script.specs.Exact.{Exact, pessimistic_logging, family_based_logging, all_after}
 use Rattle.format.specs.declared.command.Opening.{Opening}
 use Rattle.format.specs.declared.command.LoggerChoice.{LoggerChoice}
 use Rattle.format.specs.declared.command.LoggerChoice.TheVariants.{Pessimistic, FamilyBased}
@@ -22,7 +24,7 @@ use Rattle.script.specs.declared.run.Ran.{Ran}
 use Rattle.format.specs.Commands.{letter, open_letter}
 use Rattle.format.specs.Faults.{fault_number}
 use Rattle.format.specs.Lines.{answer_line, placed, ending}
-use Rattle.format.specs.Reader.{reading, opening_read, call_at, size}
+use Rattle.format.specs.Reader.{opening_at, reading, size}
 
 -- WHAT A RUN LEAVES: the listing, how many of its bytes were written, and the stop, if it did not come to the script's end
 pub record Left : Type 0 where
@@ -41,15 +43,6 @@ stopping w e k i = record { written = w; stop = Some (record { fault = e; comman
 
 abbrev pub stops : List ℕ → ℕ → RunFault → ℕ → ℕ → Left
 stops xs w e k i = left xs (stopping w e k i)
-
--- a fault of the first command stops the run before anything is written
-abbrev pub ended : List ℕ → Result Ran RunFault → Left
-ended xs (Ok r) = left xs r
-ended xs (Err e) = stops xs 0 e 1 0
-
-abbrev pub WrittenWithin : Result Ran RunFault → ℕ → Type 0
-WrittenWithin (Ok r) size = r.written ≤ size
-WrittenWithin (Err e) size = Unit {0}
 
 -- the line of the open, and of command number k
 abbrev pub first_line : Answer → List ℕ
@@ -76,25 +69,36 @@ if_opened (Ok u) xs p = p
 if_opened (Err e) xs p = stops xs 0 (RunFault.Cluster e) 1 0
 
 module _ {S M : Type 0} (rules : Exact M) where
+  -- the answer of a call made at a, and the cluster after it
+  abbrev pub outcome : System S M → Call → Answer × Cluster S
+  outcome a c = unless_refused (checked (checks a.cluster c)) a.cluster (done (rules.found a.logger) a.cluster c)
+
+  abbrev pub operations : System S M → Call → List Operation
+  operations a c = if_accepted (checked (checks a.cluster c)) (made (rules.found a.logger) a.cluster c)
+
+  -- A CALL: its answer, and the cluster and the logger after it
+  unfoldable pub called : System S M → Call → Answer × System S M
+  called a c = ((outcome a c).0, record { cluster = (outcome a c).1; logger = all_after rules (operations a c) a.logger })
+
   -- ONE TURN, over what was read at i: the call of command number k is made at a, and its line put at w
   abbrev pub turn : Result (Option Call) ReadFault → (ℕ → ℕ → List ℕ → ℕ → System S M → Left) → ℕ → ℕ → List ℕ → ℕ → System S M → Left
   turn (Ok None) more i k xs w a = ends xs w
   turn (Err e) more i k xs w a = stops xs w (RunFault.Reader e) k i
   turn (Ok (Some c)) more i k xs w a =
-      go_on (ending xs w (call_line k c (called rules a c).0))
-      (λ end. more (i + 1 + size c) (k + 1) (placed xs w (call_line k c (called rules a c).0)) end (called rules a c).1)
+      go_on (ending xs w (call_line k c (called a c).0))
+      (λ end. more (i + 1 + size c) (k + 1) (placed xs w (call_line k c (called a c).0)) end (called a c).1)
       (λ e. stops xs w (RunFault.Listing e) k i)
 
   -- at most this many turns, from the place i of the script s on
   unfoldable pub plays : ℕ → List ℕ → ℕ → ℕ → List ℕ → ℕ → System S M → Left
   plays zero s i k xs w a = ends xs w
-  plays (suc turns) s i k xs w a = turn (call_at s i) (plays turns s) i k xs w a
+  plays (suc turns) s i k xs w a = turn (reading s i) (plays turns s) i k xs w a
 
   -- an accepted open, its line, and what follows
   abbrev pub plays_opened : ℕ → List ℕ → List ℕ → Machine S → ℕ → ℕ → Left
   plays_opened turns s xs m n f =
       go_on (ending xs 0 open_line)
-      (λ end. plays turns s past_open 2 (placed xs 0 open_line) end (opening rules m n f))
+      (λ end. plays turns s past_open 2 (placed xs 0 open_line) end (record { cluster = opened m n f; logger = rules.fresh n f }))
       (λ e. stops xs 0 (RunFault.Listing e) 1 0)
 
   -- A RUN on its own cluster
@@ -117,7 +121,7 @@ abbrev pub in_bounds : List ℕ → List ℕ → Bool
 in_bounds s xs = nat_le (length s) 65536 && nat_le (length xs) 65536
 
 abbrev pub first_read : List ℕ → List ℕ → Result Opening ReadFault
-first_read s xs = cond (in_bounds s xs) (opening_read (reading s 0)) (Err TooLong)
+first_read s xs = cond (in_bounds s xs) (opening_at s 0) (Err TooLong)
 
 unfoldable pub whole_within : ℕ → List ℕ → List ℕ → Left
 whole_within turns s xs = if_read (first_read s xs) turns s xs

@@ -31,7 +31,7 @@ impl Records {
 
     /// How many messages from s host p has received.
     pub fn received(&self, p: u8, s: u8) -> u8
-        requires { (p < 8) × (s ≤ 8) }
+        requires { p < 8 }
         ensures value { result ≡ count_from s (lists_of self.now p).receipts }
         ensures few { result ≤ 64 }
         ensures low { result ≤ length (lists_of self.now p).receipts }
@@ -43,7 +43,7 @@ impl Records {
 
     /// The body at place i, from 0, of the messages from host s to host p.
     pub fn sent(&self, s: u8, p: u8, i: u8) -> Option<u64>
-        requires { (s < 8) × (p < 8) }
+        requires { s < 8 }
         ensures { result ≡ slice_get (bodies_to p (lists_of self.now s).sends) i }
     {
         let all = &self.records[..];

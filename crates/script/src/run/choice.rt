@@ -1,7 +1,7 @@
 ghost use Rattle.std.specs.Prelude.{◌≡◌, ◌≤◌, length};
 ghost use Rattle.script.specs.Choice.{RunsChosen, RunsRead};
 ghost use Rattle.script.specs.Course.{Runs};
-ghost use Rattle.script.specs.Run.{left, ended, WrittenWithin, first_read, whole, EndsByItself};
+ghost use Rattle.script.specs.Run.{left, first_read, whole, EndsByItself};
 
 use super::Ran;
 use super::course::{play_on, stopped};
@@ -26,18 +26,18 @@ fn play_new<L: Logger + Drop, W: Workload + Drop>(
     opening: Opening,
     script: &[u8],
     listing: &mut [u8],
-) -> Result<Ran, RunFault>
-    ensures runs { Runs L.Logger W.Workload.machine opening.n opening.f script.now listing.old (ended listing.new result) }
-    ensures within { WrittenWithin result (length listing.old) }
+) -> Ran
+    ensures runs { Runs L.Logger W.Workload.machine opening.n opening.f script.now listing.old (left listing.new result) }
+    ensures within { result.written ≤ length listing.old }
 {
     let mut cluster = Cluster::new(logger, workload);
     play_on(&mut cluster, opening.n, opening.f, script, listing)
 }
 
 /// Plays with the logger and the workload that the open asks for.
-fn play_chosen(opening: Opening, script: &[u8], listing: &mut [u8]) -> Result<Ran, RunFault>
-    ensures runs { RunsChosen opening.logger opening.workload opening.n opening.f script.now listing.old (ended listing.new result) }
-    ensures within { WrittenWithin result (length listing.old) }
+fn play_chosen(opening: Opening, script: &[u8], listing: &mut [u8]) -> Ran
+    ensures runs { RunsChosen opening.logger opening.workload opening.n opening.f script.now listing.old (left listing.new result) }
+    ensures within { result.written ≤ length listing.old }
 {
     match (opening.logger, opening.workload) {
         (LoggerChoice::Pessimistic, WorkloadChoice::Ledger) => {
@@ -62,19 +62,7 @@ fn first(script: &[u8], listing: &[u8]) -> Result<Opening, ReadFault>
     if script.len() > MOST || listing.len() > MOST {
         return Err(ReadFault::TooLong);
     }
-    let Some(command) = Reader::new(script, 0).next()? else {
-        return Err(ReadFault::NoOpen);
-    };
-    command.opening()
-}
-
-/// Reads the open and plays the script. A fault at the first command, of whatever layer, comes up as it is.
-fn play_read(script: &[u8], listing: &mut [u8]) -> Result<Ran, RunFault>
-    ensures runs { RunsRead (first_read script.now listing.old) script.now listing.old (ended listing.new result) }
-    ensures within { WrittenWithin result (length listing.old) }
-{
-    let opening = first(script, listing)?;
-    play_chosen(opening, script, listing)
+    Reader::new(script, 0).open()
 }
 
 /// Plays a script on a cluster of its own, and lists its commands.
@@ -83,9 +71,9 @@ pub fn play(script: &[u8], listing: &mut [u8]) -> Ran
     ensures guaranteed { RunsRead (first_read script.now listing.old) script.now listing.old (left listing.new result) }
     ensures within { result.written ≤ length listing.old }
 {
-    match play_read(script, listing) {
-        Ok(ran) => ran,
-        Err(fault) => stopped(0, fault, 1, 0),
+    match first(script, listing) {
+        Ok(opening) => play_chosen(opening, script, listing),
+        Err(fault) => stopped(0, RunFault::Reader(fault), 1, 0),
     }
 }
 

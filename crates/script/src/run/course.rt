@@ -1,7 +1,7 @@
 ghost use Rattle.std.specs.Prelude.{◌≡◌, ◌≤◌, length};
 ghost use Rattle.cluster.specs.View.{system};
 ghost use Rattle.script.specs.Course.{Finished, Runs};
-ghost use Rattle.script.specs.Run.{left, stopping, ended, WrittenWithin};
+ghost use Rattle.script.specs.Run.{left, stopping};
 
 use super::Ran;
 use super::turn::{open, turn};
@@ -58,18 +58,19 @@ fn play_rest<L: Logger, W: Workload>(
     }
 }
 
-/// Plays a script whose first command opens a cluster of n hosts, of which f may be down at once. A fault of that
-/// command comes up as it is.
+/// Plays a script whose first command opens a cluster of n hosts, of which f may be down at once.
 pub fn play_on<L: Logger, W: Workload>(
     cluster: &mut Cluster<L, W>,
     n: u8,
     f: u8,
     script: &[u8],
     listing: &mut [u8],
-) -> Result<Ran, RunFault>
-    ensures runs { Runs L.Logger W.Workload.machine n f script.now listing.old (ended listing.new result) }
-    ensures within { WrittenWithin result (length listing.old) }
+) -> Ran
+    ensures runs { Runs L.Logger W.Workload.machine n f script.now listing.old (left listing.new result) }
+    ensures within { result.written ≤ length listing.old }
 {
-    let end = open(cluster, n, f, listing)?;
-    Ok(play_rest(cluster, script, listing, end))
+    match open(cluster, n, f, listing) {
+        Ok(end) => play_rest(cluster, script, listing, end),
+        Err(fault) => stopped(0, fault, 1, 0),
+    }
 }

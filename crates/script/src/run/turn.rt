@@ -1,12 +1,11 @@
 ghost use Rattle.std.specs.Prelude.{◌≡◌, ◌≤◌, length};
 ghost use Rattle.cluster.specs.View.{system};
-ghost use Rattle.script.specs.Course.{OpenListed, EndsWithin, call_of, Lettered, Turned};
-ghost use Rattle.format.specs.Reader.{reading, call_at, past};
+ghost use Rattle.script.specs.Course.{OpenListed, EndsWithin, Turned};
+ghost use Rattle.format.specs.Reader.{reading, past};
 
-use calls::call::Call;
 use cluster::cluster::Cluster;
 use format::command::OPEN_LETTER;
-use format::fault::{ReadFault, RunFault};
+use format::fault::RunFault;
 use format::listing::{Entry, list};
 use format::reader::Reader;
 use logger::logger::Logger;
@@ -32,20 +31,6 @@ pub(super) fn open<L: Logger, W: Workload>(
     Ok(end)
 }
 
-/// Reads a later command: its letter and its call, or nothing at the script's end.
-fn read_call(reader: &mut Reader) -> Result<Option<(u8, Call)>, ReadFault>
-    ensures value { call_of result ≡ call_at reader.old.script.now reader.old.at }
-    ensures letter { Lettered result }
-    ensures script { reader.new.script ≡ reader.old.script }
-    ensures at { reader.new.at ≡ past reader.old.at (reading reader.old.script.now reader.old.at) }
-{
-    let Some(command) = reader.next()? else {
-        return Ok(None);
-    };
-    let call = command.call()?;
-    Ok(Some((command.letter(), call)))
-}
-
 /// One turn: reads a command, makes its call, and puts its line at `written`. Answers where the line ends, or nothing
 /// at the script's end.
 pub(super) fn turn<L: Logger, W: Workload>(
@@ -55,17 +40,17 @@ pub(super) fn turn<L: Logger, W: Workload>(
     written: usize,
     number: u64,
 ) -> Result<Option<usize>, RunFault>
-    ensures turned { Turned L.Logger (call_at reader.old.script.now reader.old.at) number listing.old written (system W.Workload cluster.old) result listing.new (system W.Workload cluster.new) }
+    ensures turned { Turned L.Logger (reading reader.old.script.now reader.old.at) number listing.old written (system W.Workload cluster.old) result listing.new (system W.Workload cluster.new) }
     ensures script { reader.new.script ≡ reader.old.script }
     ensures at { reader.new.at ≡ past reader.old.at (reading reader.old.script.now reader.old.at) }
 {
-    let Some((letter, call)) = read_call(reader)? else {
+    let Some(command) = reader.next()? else {
         return Ok(None);
     };
     let entry = Entry {
         number,
-        letter,
-        answer: cluster.call(call),
+        letter: command.letter(),
+        answer: cluster.call(command.call()),
     };
     let end = list(listing, written, &entry)?;
     Ok(Some(end))

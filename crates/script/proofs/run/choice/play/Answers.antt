@@ -1,18 +1,17 @@
-use Rattle.std.proofs.Common.{sym, refl, ap, subst, arith}
+use Rattle.std.proofs.Common.{◌≡◌, Ok, Err, sym, ap, ◌∙◌, arith, rules}
 use Rattle.script.specs.declared.run.Ran.{Ran}
-use Rattle.script.specs.Choice.{RunsRead}
-use Rattle.script.specs.Run.{left, first_read}
+use Rattle.script.specs.Run.{left}
 use Rattle.script.proofs.Choices.{read_left}
 use Rattle.script.proofs.run.choice.play.Goals as goal
 
 pub returns-in-Ok : goal.returns-in-Ok
 returns-in-Ok c =
-    let runs = c.in-Ok.ensures.runs in
-    record { value = read_left c.args.script.now c.args.listing.now _ runs; guaranteed = runs; within = c.in-Ok.ensures.within }
+    let both = read_left (Ok c.in-Ok.opening) c.args.script.now c.args.listing.now (left c.play_chosen.new.listing c.play_chosen.result) c.play_chosen.ensures.runs
+    (sym c.in-Ok.is ∙ c.first.ensures) in
+    record { value = both.0; guaranteed = both.1; within = c.play_chosen.ensures.within }
 
 pub returns-in-Err : goal.returns-in-Err
 returns-in-Err c =
-    let s = c.args.script.now in
-    let xs = c.args.listing.now in
-    let runs = subst (λ (r : Ran). RunsRead (first_read s xs) s xs (left c.play_read.new.listing r)) (sym c.stopped.ensures) c.in-Err.ensures.runs in
-    record { value = read_left s xs _ runs; guaranteed = runs; within = omega (arith, ap (λ (r : Ran). r.written) c.stopped.ensures) }
+    let both = read_left (Err c.in-Err.fault) c.args.script.now c.args.listing.now (left c.args.listing.now c.stopped.result)
+    (ap (left c.args.listing.now) c.stopped.ensures) (sym c.in-Err.is ∙ c.first.ensures) in
+    record { value = both.0; guaranteed = both.1; within = omega (arith, ap (λ (r : Ran). r.written) c.stopped.ensures) }

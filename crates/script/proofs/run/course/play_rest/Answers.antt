@@ -1,9 +1,9 @@
-use Rattle.std.proofs.Common.{◌≡◌, ℕ, List, [], length, Ok, sym, refl, ap, ◌∙◌, subst, arith, rules}
+use Rattle.std.proofs.Common.{◌≡◌, ℕ, List, [], Ok, sym, refl, ap, ◌∙◌, subst, arith, rules}
 use Rattle.cluster.specs.View.{system}
 use Rattle.script.specs.declared.run.Ran.{Ran}
 use Rattle.script.specs.Course.{Reached}
 use Rattle.script.specs.Run.{stopping}
-use Rattle.script.proofs.Courses.{goes_further, more, comes_to_end, comes_to_stop}
+use Rattle.script.proofs.Courses.{more, comes_to_end, comes_to_stop}
 use Rattle.script.proofs.run.course.play_rest.Goals as goal
 
 pub loop-next-init : goal.loop-next-init
@@ -43,10 +43,3 @@ loop-next-preserved g c =
     (system g.W.Workload l.cluster) (system g.W.Workload c.turn.new.cluster) l.reader.at l.number l.written l.listing c.turn.new.listing l.invariant.1.1
     l.reader.script.now c.turn.result c.in-Some.end c.turn.new.reader.at l.invariant.0 c.turn.ensures.turned (sym (c.in-Ok.is ∙ ap Ok c.in-Some.is)) c.turn.ensures.at in
     (ap (λ x. x.now) c.turn.ensures.script ∙ l.invariant.0, (one.calls, one.reached), omega (arith, one.further), omega (arith, one.within))
-
-pub loop-next-smaller : goal.loop-next-smaller
-loop-next-smaller g c =
-    let l = c.loop-next in
-    let moved = goes_further g.L.Logger (system g.W.Workload l.cluster) (system g.W.Workload c.turn.new.cluster) l.listing c.turn.new.listing l.number l.written
-    l.reader.script.now l.reader.at c.turn.new.reader.at c.turn.result c.in-Some.end c.turn.ensures.turned (sym (c.in-Ok.is ∙ ap Ok c.in-Some.is)) c.turn.ensures.at in
-    omega (arith, moved.0, moved.1, ap length l.invariant.0)
