@@ -1,5 +1,5 @@
 //! The operations of family-based logging.
-ghost use Rattle.std.specs.Prelude.{◌≡◌, ◌<◌, ◌≤◌, if◌then◌else◌, None, nat_lt};
+ghost use Rattle.std.specs.Prelude.{◌≡◌, ◌<◌, ◌≤◌};
 ghost use Rattle.loggers.specs.FamilyBased.{fresh, after, means, finds};
 ghost use Rattle.loggers.specs.FamilyInvariant.{Ready};
 ghost use Rattle.loggers.specs.FamilyViews.{seen, state};
@@ -29,11 +29,9 @@ impl FamilyBased {
 
     /// What host h holds of receipt number r of host q: the message, and the hosts that h knows to hold that.
     pub fn known_holders(&self, h: u8, q: u8, r: u8) -> Option<Entry>
-        ensures { seen result ≡ (if nat_lt h 8 then (state self.now).holdings q r h else None) }
+        requires { (h < 8) × ((q < 8) × ((1 ≤ r) × (r ≤ 64))) }
+        ensures { seen result ≡ (state self.now).holdings q r h }
     {
-        if h >= 8 || q >= 8 || r < 1 || r > 64 {
-            return None;
-        }
         self.table.entry(h, q, r)
     }
 }
