@@ -1,5 +1,4 @@
 use std::process::Abort;
-use std::test::Fail;
 use workload::spacing::Spacing;
 use workload::spacing::mark::Mark;
 use workload::{OUTSIDE, Workload};
@@ -12,35 +11,33 @@ fn margin() -> Spacing {
 }
 
 /// Host 0 takes the width: it shows these bits twice, and sends the same body on.
-fn check_taken(rt: &impl Abort, bits: u32) -> Result<(), Fail> {
+fn check_taken(rt: &impl Abort, bits: u32, what: &str) {
     let mut spacing = margin();
     let body = Mark::width(bits);
     let reaction = spacing.step(0, OUTSIDE, body);
-    assert_eq!(rt; spacing.show(0), bits as u64 * 0x1_0000_0001);
-    assert_eq!(rt; reaction.send, Some((1, body)));
-    assert_eq!(rt; reaction.output, None);
-    Ok(())
+    assert_eq!(rt; spacing.show(0), bits as u64 * 0x1_0000_0001, "{what}");
+    assert_eq!(rt; reaction.send, Some((1, body)), "{what}");
+    assert_eq!(rt; reaction.output, None, "{what}");
 }
 
-fn check_ignored(rt: &impl Abort, body: u64) -> Result<(), Fail> {
+fn check_ignored(rt: &impl Abort, body: u64, what: &str) {
     let mut spacing = margin();
     let reaction = spacing.step(0, OUTSIDE, body);
-    assert_eq!(rt; spacing.show(0), 0);
-    assert_eq!(rt; reaction.send, None);
-    assert_eq!(rt; reaction.output, None);
-    Ok(())
+    assert_eq!(rt; spacing.show(0), 0, "{what}");
+    assert_eq!(rt; reaction.send, None, "{what}");
+    assert_eq!(rt; reaction.output, None, "{what}");
 }
 
 #[test]
-fn widths_up_to_the_widest(rt: HostRuntime) -> Result<(), Fail> {
-    check_taken(&rt, 0x4580_0000).note("4096.0")?;
-    check_taken(&rt, 0x0000_0001).note("the least subnormal")?;
-    check_taken(&rt, 0).note("zero")?;
-    check_ignored(&rt, Mark::width(0x4580_0001)).note("just above 4096.0")?;
-    check_ignored(&rt, Mark::width(0x8000_0000)).note("negative zero")?;
-    check_ignored(&rt, Mark::width(0x7f80_0000)).note("infinity")?;
-    check_ignored(&rt, Mark::width(0x7fc0_0000)).note("not a number")?;
-    check_ignored(&rt, 0x300_0000_0000_0000).note("kind 3")
+fn widths_up_to_the_widest(rt: HostRuntime) {
+    check_taken(&rt, 0x4580_0000, "4096.0");
+    check_taken(&rt, 0x0000_0001, "the least subnormal");
+    check_taken(&rt, 0, "zero");
+    check_ignored(&rt, Mark::width(0x4580_0001), "just above 4096.0");
+    check_ignored(&rt, Mark::width(0x8000_0000), "negative zero");
+    check_ignored(&rt, Mark::width(0x7f80_0000), "infinity");
+    check_ignored(&rt, Mark::width(0x7fc0_0000), "not a number");
+    check_ignored(&rt, 0x300_0000_0000_0000, "kind 3");
 }
 
 #[test]

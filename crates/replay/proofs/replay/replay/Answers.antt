@@ -11,7 +11,7 @@ loop-turn-init g c =
 
 pub loop-turn-preserved : goal.loop-turn-preserved
 loop-turn-preserved g c = (
-  replaying_more (g.L.Logger.found c.args.logger.now) (members c.args.returning) c.total-most.result c.loop-turn.-turn c.loop-turn.count c.in-Some.q
+  replaying_more (g.L.Logger.found c.args.logger.now) (members c.args.returning) c.total-most.result c.loop-turn._turn c.loop-turn.count c.in-Some.q
       (look g.W.Workload c.args.hosts.now) (look g.W.Workload c.loop-turn.hosts) _ c.in-Some.message c.loop-turn-test.true
       (sym c.lowest-next.ensures.value ∙ c.in-Some.is) c.take.ensures c.loop-turn.invariant.0,
   omega arith,
@@ -22,7 +22,7 @@ returns-in-None g c =
     let found = g.L.Logger.found c.args.logger.now in
     let first = look g.W.Workload c.args.hosts.now in
     ap (λ (k : ℕ). replay found (members c.args.returning) k first) (ap (targets found (members c.args.returning)) (sym c.n.ensures) ∙ sym c.total-most.ensures.value)
-    ∙ replaying_stops found (members c.args.returning) c.total-most.result c.loop-turn.-turn c.loop-turn.count first (look g.W.Workload c.loop-turn.hosts) c.loop-turn-test.true
+    ∙ replaying_stops found (members c.args.returning) c.total-most.result c.loop-turn._turn c.loop-turn.count first (look g.W.Workload c.loop-turn.hosts) c.loop-turn-test.true
     (sym c.lowest-next.ensures.value ∙ c.in-None.is) c.loop-turn.invariant.0
 
 pub returns : goal.returns
@@ -30,5 +30,5 @@ returns g c =
     let found = g.L.Logger.found c.args.logger.now in
     let first = look g.W.Workload c.args.hosts.now in
     ap (λ (k : ℕ). replay found (members c.args.returning) k first) (ap (targets found (members c.args.returning)) (sym c.n.ensures) ∙ sym c.total-most.ensures.value)
-    ∙ replaying_ends found (members c.args.returning) c.total-most.result c.loop-turn.-turn c.loop-turn.count first (look g.W.Workload c.loop-turn.hosts) c.loop-turn-test.false
+    ∙ replaying_ends found (members c.args.returning) c.total-most.result c.loop-turn._turn c.loop-turn.count first (look g.W.Workload c.loop-turn.hosts) c.loop-turn-test.false
     c.loop-turn.invariant.0

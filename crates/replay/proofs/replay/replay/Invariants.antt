@@ -6,4 +6,4 @@ use Rattle.replay.proofs.replay.replay.Given as goal
 
 abbrev pub invariant-loop-turn : goal.invariant-loop-turn
 invariant-loop-turn g l =
-    Replaying (g.L.Logger.found l.logger) (members l.returning) l.most (look g.W.Workload l.initial.hosts) l.-turn l.count (look g.W.Workload l.hosts) × (l.count ≤ l.-turn)
+    Replaying (g.L.Logger.found l.logger) (members l.returning) l.most (look g.W.Workload l.initial.hosts) l._turn l.count (look g.W.Workload l.hosts) × (l.count ≤ l._turn)
