@@ -10,7 +10,7 @@ use Rattle.calls.specs.declared.call.Made.{Made}
 use Rattle.calls.specs.Calls.{System}
 use Rattle.calls.specs.Trace.{Trace}
 
--- the calls of a crash_free run
+-- the calls of a crash-free run
 abbrev pub run_calls : List (ℕ × ℕ) → List (ℕ × ℕ) → List Call
 run_calls posts pairs = map (λ x. Post x.0 x.1) posts ++ map (λ x. Deliver x.0 x.1) pairs
 
@@ -18,7 +18,7 @@ abbrev pub NoneRefused : List Made → Type 0
 NoneRefused [] = Unit {0}
 NoneRefused (x ∷ xs) = (is_ok x.answer ≡ true) × NoneRefused xs
 
--- Of a valid crash_free run a cluster accepts each call, under any logger, and each host ends with what it has there.
+-- Of a valid crash-free run a cluster accepts each call, under any logger, and each host ends with what it has there.
 abbrev pub NoLoggerShows : {L S : Type 0} → logger.Ghosts L → (ℕ → Machine S) → Type 0
 NoLoggerShows {L} {S} log machine =
     (n f : ℕ) → Sizes n f → (posts pairs : List (ℕ × ℕ)) → Valid (machine n) n posts pairs → (t : List Made) (a : System S L) → Trace log (machine n) n f t a

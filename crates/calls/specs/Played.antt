@@ -18,7 +18,7 @@ module _ {L S : Type 0} (log : logger.Ghosts L) (machine : ℕ → Machine S) (n
     -- while never more than f hosts are down at once, which is what it is to stay whole, the guarantee holds after each call
     pub whole : b.cluster.whole ≡ true ↔ Within log (machine n) n f trace
     pub guarantee : Within log (machine n) n f trace → Guarantee log (machine n) n f trace
-    -- and if these are the calls of a valid crash_free run, none is refused, and each host ends with what it has there
+    -- and if these are the calls of a valid crash-free run, none is refused, and each host ends with what it has there
     pub alike : (posts pairs : List (ℕ × ℕ)) → Valid (machine n) n posts pairs → map (λ (x : Made). x.call) before ≡ run_calls posts pairs
         → NoneRefused after × ((h : ℕ) → h < n → b.cluster.network.hosts h ≡ (crash_free (machine n) n posts pairs).hosts h)
 

@@ -16,7 +16,7 @@ pub fn whole_is_within<L: Logger, W: Workload>()
     ensures { WholeIsWithin L.Logger W.Workload.machine }
 {}
 
-/// A crash_free run goes the same way under any logger.
+/// A crash-free run goes the same way under any logger.
 pub fn no_logger_shows<L: Logger, W: Workload>()
     ensures { NoLoggerShows L.Logger W.Workload.machine }
 {}

@@ -1,4 +1,4 @@
--- What a whole crash_free run leaves in the caller's lists: each post and each delivery has its answer beside it.
+-- What a whole crash-free run leaves in the caller's lists: each post and each delivery has its answer beside it.
 use Rattle.std.specs.Prelude.{ℕ, List, [], ◌∷◌, map, Ok, Err, Result}
 use Rattle.workload.specs.Machine.{Machine}
 use Rattle.workload.specs.declared.Workload as workload

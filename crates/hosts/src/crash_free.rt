@@ -4,7 +4,7 @@ mod calls;
 pub mod feed;
 mod run;
 
-/// A crash_free run: hosts that stay up, and no logger. What the recovery of a cluster is measured by.
+/// A crash-free run: hosts that stay up, and no logger. What the recovery of a cluster is measured by.
 #[derive(Drop)]
 pub struct CrashFree<W> {
     hosts: Hosts<W>,

@@ -1,4 +1,4 @@
-//! The hosts of a cluster: what each one has, the messages between them, and the crash_free run.
+//! The hosts of a cluster: what each one has, the messages between them, and the crash-free run.
 #![tactic(auto)]
 
 pub mod crash_free;

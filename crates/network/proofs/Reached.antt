@@ -1,4 +1,4 @@
--- The worlds that crash_free runs come to: their messages, their cuts, and how hosts come back to them.
+-- The worlds that crash-free runs come to: their messages, their cuts, and how hosts come back to them.
 use Rattle.std.proofs.Common.{◌≡◌, ℕ, ◌<◌, ◌≤◌, ◌↔◌, List, [], ◌∷◌, ◌++◌, map, length, take, Some, sym, ap, ◌∙◌, subst, inl, inr, arith, length-append, take_all}
 use mathlib.Core.Path.{fun_ext}
 use native.Mathlib.Decide.{dec_lt}

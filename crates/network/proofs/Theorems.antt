@@ -1,4 +1,4 @@
--- The theorems about crash_free runs.
+-- The theorems about crash-free runs.
 use Rattle.std.proofs.Common.{ℕ, refl, arith, lit<}
 use Rattle.workload.specs.Machine.{Machine}
 use Rattle.network.specs.World.{cut, Reached, start, taken, Closed}

@@ -1,4 +1,4 @@
--- The crash_free run: n hosts that stay up, and no logger. It is fed posts, then pairs of a receiver and a sender.
+-- The crash-free run: n hosts that stay up, and no logger. It is fed posts, then pairs of a receiver and a sender.
 use Rattle.std.specs.Prelude.{◌≡◌, ℕ, true, List, [], ◌∷◌, map, is_ok, Ok, Err, Result}
 use Rattle.workload.specs.Machine.{Machine}
 use Rattle.workload.specs.declared.Workload as workload

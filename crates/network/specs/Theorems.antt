@@ -1,4 +1,4 @@
--- What is true of every crash_free run, and of the worlds that runs come to. The records at the end are what the functions of src/theory.rt ensure.
+-- What is true of every crash-free run, and of the worlds that runs come to. The records at the end are what the functions of src/theory.rt ensure.
 use Rattle.std.specs.Prelude.{◌≡◌, ℕ, zero, suc, ◌+◌, ◌<◌, ◌≤◌, true, ◌↔◌, List, ◌++◌, length, take, drop, Some, None, Option, ◌≢◌}
 use Rattle.std.specs.List.{slice_get}
 use Rattle.workload.specs.Machine.{Machine}

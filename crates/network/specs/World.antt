@@ -72,7 +72,7 @@ pub record Next {S : Type 0} (v : Network S) (p : ℕ) (t : Message) : Type 0 wh
   pub waits : waiting v p t.sender ≡ Some t
 
 module _ {S : Type 0} (m : Machine S) (n : ℕ) (posts : ℕ → List ℕ) where
-  -- The worlds that a crash_free run comes to: one message more at a time.
+  -- The worlds that a crash-free run comes to: one message more at a time.
   pub data Reached : World → Type 0 where
     start : Reached nothing
     taken : {W : World} {p : ℕ} {t : Message} → Reached W → Next (network m n posts W) p t → Reached (put W p t)

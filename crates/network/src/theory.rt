@@ -1,4 +1,4 @@
-//! What is true of every crash_free run, for hosts that follow any workload.
+//! What is true of every crash-free run, for hosts that follow any workload.
 //! Nothing here does anything when it runs: a function's contract is a theorem, and the crate is proved only if the theorem is.
 ghost use Rattle.std.specs.Prelude.{ℕ};
 ghost use Rattle.network.specs.Relay.{Orphan};
