@@ -10,3 +10,4 @@ pub mod Noting
 pub mod Carrying
 pub mod Spreading
 pub mod Rejoining
+pub mod WorkedExample

@@ -8,3 +8,4 @@ pub mod pessimistic;
 mod places;
 mod store;
 mod table;
+pub mod worked_example;

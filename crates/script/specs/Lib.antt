@@ -1,4 +1,5 @@
 pub mod Exact
+pub mod Examples
 pub mod Run
 pub mod Course
 pub mod Choice

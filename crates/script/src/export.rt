@@ -17,8 +17,7 @@ fn stop_number(stop: Option<Stop>) -> u64
 
 /// Plays a script into a listing, for C. The low 32 bits of the answer say how many bytes of the listing are written,
 /// and the high 32 bits are the number of the fault that stopped the run, or 0.
-#[unsafe(no_mangle)]
-pub extern "C" fn run(script: &[u8], listing: &mut [u8]) -> u64
+pub fn run(script: &[u8], listing: &mut [u8]) -> u64
     ensures value { result ≡ packed (whole script.now listing.old) }
     ensures listing { listing.new ≡ (whole script.now listing.old).listing }
 {
