@@ -85,12 +85,15 @@ impl<'a> Reader<'a> {
         ensures at { self.new.at ≡ past_opening self.old.at result }
     {
         let script = self.script;
-        let at = self.at;
+        let at = self.place();
         if at >= script.len() || script[at] != 0 {
             return Err(ReadFault::NoOpen);
         }
         let opening = opening(part(script, at + 1)?)?;
-        self.at = at + OPEN_LEN;
+        *self = Reader {
+            script,
+            at: at + OPEN_LEN,
+        };
         Ok(opening)
     }
 
@@ -101,7 +104,7 @@ impl<'a> Reader<'a> {
         ensures at { self.new.at ≡ past self.old.at (heard result) }
     {
         let script = self.script;
-        let at = self.at;
+        let at = self.place();
         if at >= script.len() {
             return Ok(None);
         }
@@ -116,7 +119,10 @@ impl<'a> Reader<'a> {
             7 => (1, Command::Show(part(script, from)?)),
             _ => return Err(ReadFault::NoSuchKind),
         };
-        self.at = from + size;
+        *self = Reader {
+            script,
+            at: from + size,
+        };
         Ok(Some(command))
     }
 }
