@@ -20,7 +20,7 @@ use Rattle.logger.proofs.Covering.{no_orphans}
 use Rattle.calls.specs.declared.call.Call.TheVariants.{Recover}
 use Rattle.calls.specs.declared.call.Made.{Made}
 use Rattle.calls.specs.Cluster.{Cluster, down_count, opened}
-use Rattle.calls.specs.Recovery.{target, total}
+use Rattle.calls.specs.Recovery.{total}
 use Rattle.calls.specs.Calls.{Answer, checks, recovered, System, outcome}
 use Rattle.calls.specs.Trace.{posts_of, releases_of, Trace, opens, then, Within}
 use Rattle.calls.specs.Guarantee.{events, lengths, AsCrashFree, Behind, Recovers, Holds, Guarantee, Guaranteed, WholeIsWithin}

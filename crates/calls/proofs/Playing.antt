@@ -1,5 +1,5 @@
 -- A list of calls made one after the other on a cluster that is opened for it.
-use Rattle.std.proofs.Common.{◌≡◌, ℕ, ◌+◌, ◌<◌, Bool, true, ◌&&◌, ltb, leb, List, [], ◌∷◌, ◌++◌, map, length, get_or, take, set, is_ok, Ok, Err, Result, sym, refl, ap, ◌∙◌, subst, arith, ltb-true, leb-true}
+use Rattle.std.proofs.Common.{◌≡◌, ℕ, ◌+◌, ◌<◌, Bool, true, ◌&&◌, ltb, leb, List, [], ◌∷◌, map, length, get_or, take, set, is_ok, Ok, Err, Result, sym, refl, ap, ◌∙◌, subst, arith, ltb-true, leb-true}
 use lib.Seq.{map-set}
 use Rattle.std.proofs.lemmas.List.{take_more_set, set-get_or, get_or-map}
 use Rattle.workload.specs.Machine.{Machine}

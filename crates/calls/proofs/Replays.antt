@@ -1,5 +1,5 @@
 -- A replay brings each returning host back to its whole history, if that is what is found of it.
-use Rattle.std.proofs.Common.{◌≡◌, ℕ, zero, suc, ◌+◌, ◌-◌, ◌<◌, min, Bool, true, cond, ltb, length, take, Some, None, Option, sym, refl, ap, ◌∙◌, add-one, arith, length-take}
+use Rattle.std.proofs.Common.{◌≡◌, ℕ, zero, suc, ◌+◌, ◌<◌, min, Bool, true, cond, ltb, length, take, Some, None, Option, sym, refl, ap, ◌∙◌, add-one, arith, length-take}
 use Rattle.std.proofs.lemmas.Bool.{eq-eqb, lt-ltb}
 use Rattle.std.proofs.lemmas.Bool.Decides.{nat_tests}
 use Rattle.std.specs.List.{slice_get}

@@ -1,9 +1,8 @@
 -- The calls on a cluster: when each is refused, what it answers and leaves, and which operations of the logger it makes.
-use Rattle.std.specs.Prelude.{◌≡◌, ℕ, ◌+◌, Bool, true, false, cond, not, ◌&&◌, ◌||◌, List, [], ◌∷◌, ◌++◌, length, is_some, Some, None, Ok, Err, Option, Result, ◌==◌, nat_le, nat_lt}
+use Rattle.std.specs.Prelude.{◌≡◌, ℕ, ◌+◌, Bool, false, cond, not, ◌&&◌, ◌||◌, List, [], ◌∷◌, ◌++◌, length, is_some, Some, None, Ok, Err, Option, Result, ◌==◌, nat_le, nat_lt}
 use Rattle.std.specs.List.{slice_get}
 use Rattle.std.specs.Option.{unwrap_or}
 use Rattle.workload.specs.Machine.{Machine}
-use Rattle.workload.specs.declared.Workload as workload
 use Rattle.network.specs.declared.refusal.Refusal.{Refusal}
 use Rattle.network.specs.declared.refusal.Refusal.TheVariants.{DownBound, NoSuchPoint, NotWhole, HostDown, SenderDown, NothingToRelease, NobodyDown, TargetMissed}
 use Rattle.network.specs.Checks.{checked, unless_refused}

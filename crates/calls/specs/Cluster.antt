@@ -1,7 +1,7 @@
 -- A cluster: hosts that may crash.
-use Rattle.std.specs.Prelude.{ℕ, Bool, true, false, cond, nat_le}
+use Rattle.std.specs.Prelude.{ℕ, Bool, true, false, nat_le}
 use Rattle.workload.specs.Machine.{Machine, replaced}
-use Rattle.network.specs.Host.{Host, fresh}
+use Rattle.network.specs.Host.{fresh}
 use Rattle.network.specs.Network.{Network, started, unstarted, with_host}
 use Rattle.logger.specs.Meaning.{count}
 

@@ -1,9 +1,8 @@
 -- What a recovery makes of a cluster, by what the logger finds.
-use Rattle.std.specs.Prelude.{◌≡◌, ℕ, zero, suc, ◌+◌, ◌<◌, Bool, true, false, cond, not, ◌&&◌, ◌||◌, List, length, is_some, Some, None, Option, ◌==◌, nat_lt, slice_index}
+use Rattle.std.specs.Prelude.{◌≡◌, ℕ, zero, suc, ◌+◌, ◌<◌, Bool, true, cond, not, ◌&&◌, ◌||◌, List, length, is_some, Some, None, Option, ◌==◌, nat_lt, slice_index}
 use Rattle.network.specs.declared.message.Message.{Message}
-use Rattle.network.specs.Host.{Host, fresh}
+use Rattle.network.specs.Host.{fresh}
 use Rattle.network.specs.Network.{Network, received, waiting, is_sender, takes}
-use Rattle.calls.specs.Cluster.{Cluster, with_network, nobody}
 
 -- what is found of each receiver and receipt number: the sender and the ssn
 abbrev pub Finder : Type 0

@@ -1,5 +1,5 @@
 -- Traces: the calls made on a cluster since it was opened, each with its answer, and what an outside observer has of them.
-use Rattle.std.specs.Prelude.{◌≡◌, ℕ, ◌≤◌, Bool, true, false, List, [], ◌∷◌, ◌++◌, Some, None, Ok, Err, Option}
+use Rattle.std.specs.Prelude.{ℕ, ◌≤◌, Bool, true, false, List, [], ◌∷◌, ◌++◌, Some, None, Ok, Err, Option}
 use Rattle.workload.specs.Machine.{Machine}
 use Rattle.network.specs.Host.{optional}
 use Rattle.logger.specs.declared.logger.Logger as logger
@@ -7,7 +7,7 @@ use Rattle.logger.specs.Operation.{Operation}
 use Rattle.calls.specs.declared.call.Call.{Call}
 use Rattle.calls.specs.declared.call.Call.TheVariants.{Post, Deliver, Cut, Release, Crash, Recover, Show}
 use Rattle.calls.specs.declared.call.Made.{Made}
-use Rattle.calls.specs.Cluster.{Cluster, down_count, opened}
+use Rattle.calls.specs.Cluster.{down_count, opened}
 use Rattle.calls.specs.Calls.{Answer, System, Called}
 
 -- what an accepted post gave: to whom, and the body

@@ -1,5 +1,5 @@
 -- Where a text ends that was put into a listing.
-use Rattle.std.proofs.Common.{◌≡◌, ℕ, ◌+◌, ◌≤◌, Bool, true, false, cond, leb, List, length, Ok, Err, Result, sym, refl, ap, ◌∙◌, arith, leb-true}
+use Rattle.std.proofs.Common.{◌≡◌, ℕ, ◌+◌, ◌≤◌, Bool, true, false, cond, List, length, Ok, Err, Result, sym, refl, ap, ◌∙◌, arith, leb-true}
 use Rattle.format.specs.declared.fault.ListFault.{ListFault}
 use Rattle.format.specs.declared.fault.ListFault.TheVariants.{Full}
 use Rattle.format.specs.Lines.{fits, placed, ending}

@@ -1,6 +1,5 @@
 -- The lines of a listing, and how a line is put there.
 use Rattle.std.specs.Prelude.{ℕ, ◌+◌, Bool, cond, List, [], ◌∷◌, ◌++◌, length, take, drop, Ok, Err, decimal, Result, nat_le}
-use Rattle.network.specs.declared.refusal.Refusal.{Refusal}
 use Rattle.network.specs.Checks.{number}
 use Rattle.calls.specs.Calls.{Answer}
 use Rattle.format.specs.declared.fault.ListFault.{ListFault}

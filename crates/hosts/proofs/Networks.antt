@@ -1,5 +1,5 @@
 -- The network that tables stand for, when some of them change.
-use Rattle.std.proofs.Common.{◌≡◌, ℕ, Bool, true, false, cond, eqb, List, [], refl, ap, ◌∙◌}
+use Rattle.std.proofs.Common.{◌≡◌, ℕ, Bool, true, false, cond, eqb, List, refl, ap, ◌∙◌}
 use mathlib.Core.Path.{fun_ext}
 use Rattle.workload.specs.Machine.{Machine, replaced}
 use Rattle.workload.specs.declared.reaction.Reaction.{Reaction}

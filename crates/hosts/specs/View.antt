@@ -1,5 +1,4 @@
 -- What the hosts stand for.
-use Rattle.std.specs.Prelude.{ℕ}
 use Rattle.workload.specs.declared.Workload as workload
 use Rattle.network.specs.Host.{Host}
 use Rattle.network.specs.Network.{Network}

@@ -1,9 +1,8 @@
 -- The crash-free run: n hosts that stay up, and no logger. It is fed posts, then pairs of a receiver and a sender.
-use Rattle.std.specs.Prelude.{◌≡◌, ℕ, true, List, [], ◌∷◌, map, is_ok, Ok, Err, Result}
+use Rattle.std.specs.Prelude.{◌≡◌, ℕ, true, List, [], ◌∷◌, is_ok, Result}
 use Rattle.workload.specs.Machine.{Machine}
-use Rattle.workload.specs.declared.Workload as workload
 use Rattle.network.specs.declared.refusal.Refusal.{Refusal}
-use Rattle.network.specs.Network.{Network, started, starting, posting, delivering}
+use Rattle.network.specs.Network.{Network, started, posting, delivering}
 
 -- A call with two numbers: its answer, and the network then.
 abbrev pub Feed : Type 0 → Type 0

@@ -1,7 +1,7 @@
 -- The lowest host that has something.
-use Rattle.std.proofs.Common.{◌≡◌, ℕ, zero, suc, ◌+◌, ◌<◌, ◌≤◌, Bool, true, false, Some, None, Option, sym, refl, ap, ◌∙◌, add-one, arith}
+use Rattle.std.proofs.Common.{◌≡◌, ℕ, zero, suc, ◌+◌, ◌<◌, Bool, true, false, Some, None, Option, sym, ap, ◌∙◌, add-one, arith}
 use native.Mathlib.Decide.{ℕ_discrete}
-use Rattle.calls.specs.Recovery.{lowest, or_else, all_below}
+use Rattle.calls.specs.Recovery.{lowest, all_below}
 
 module _ {A : Type 0} (g : ℕ → Option A) where
   pub none_more : (q : ℕ) → lowest q g ≡ None → g q ≡ None → lowest (q + 1) g ≡ None

@@ -1,5 +1,5 @@
 -- The target of a host, found one receipt after the other.
-use Rattle.std.proofs.Common.{◌≡◌, ℕ, zero, suc, ◌+◌, ◌-◌, ◌<◌, ◌≤◌, Bool, true, false, cond, is_some, Option, sym, refl, ap, ◌∙◌, arith}
+use Rattle.std.proofs.Common.{◌≡◌, ℕ, zero, suc, ◌+◌, ◌-◌, ◌<◌, ◌≤◌, Bool, true, false, cond, is_some, Option, ap, ◌∙◌, arith}
 use Rattle.calls.specs.Recovery.{Finder, reach, target}
 
 module _ (found : ℕ → Option (ℕ × ℕ)) (r : ℕ) where

@@ -1,9 +1,8 @@
 -- One returning host after the other starts again.
-use Rattle.std.proofs.Common.{◌≡◌, ℕ, ◌+◌, Bool, true, false, cond, ◌&&◌, eqb, ltb, sym, refl, ap, ◌∙◌, arith}
+use Rattle.std.proofs.Common.{◌≡◌, ℕ, ◌+◌, Bool, true, false, cond, ◌&&◌, ltb, sym, ap, ◌∙◌, arith}
 use mathlib.Core.Path.{fun_ext}
 use native.Mathlib.Decide.{ℕ_discrete}
-use Rattle.workload.specs.Machine.{replaced}
-use Rattle.network.specs.Host.{Host, fresh}
+use Rattle.network.specs.Host.{fresh}
 use Rattle.network.specs.Network.{Network, with_host}
 use Rattle.calls.specs.Recovery.{restarted}
 

@@ -15,7 +15,6 @@ use Rattle.format.specs.declared.command.WorkloadChoice.{WorkloadChoice}
 use Rattle.format.specs.declared.command.WorkloadChoice.TheVariants.{Ledger, Spacing}
 use Rattle.format.specs.declared.fault.ReadFault.{ReadFault}
 use Rattle.format.specs.declared.fault.ReadFault.TheVariants.{TooLong}
-use Rattle.format.specs.declared.fault.RunFault.{RunFault}
 use Rattle.script.specs.Choice.{RunsChosen, RunsRead}
 use Rattle.format.specs.Reader.{opening_at}
 use Rattle.script.specs.Run.{Left, chosen, if_read, in_bounds, first_read, whole_within, whole}

@@ -9,10 +9,10 @@ use Rattle.format.specs.declared.fault.ListFault.{ListFault}
 use Rattle.format.specs.declared.fault.ReadFault.{ReadFault}
 use Rattle.format.specs.declared.fault.RunFault.{RunFault}
 use Rattle.script.specs.declared.run.Ran.{Ran}
-use Rattle.script.specs.Course.{listed, Turned, Listed, Reached, Ended, Finished}
-use Rattle.format.specs.Lines.{placed, ending}
+use Rattle.script.specs.Course.{listed, Turned, Reached, Ended, Finished}
+use Rattle.format.specs.Lines.{ending}
 use Rattle.format.specs.Reader.{reading, past, size}
-use Rattle.script.specs.Run.{Left, left, ends, stopping, stops, call_line}
+use Rattle.script.specs.Run.{left, ends, stopping, stops, call_line}
 use Rattle.format.proofs.Endings.{ending_within, placed_full}
 
 -- a command is read only within the script

@@ -8,7 +8,7 @@ use Rattle.logger.specs.Operation.{Operation}
 use Rattle.calls.specs.declared.call.Call.{Call}
 use Rattle.calls.specs.declared.call.Made.{Made}
 use Rattle.calls.specs.Calls.{Answer, System, Follows, Called, checks, done, made, if_accepted, open_checks}
-use Rattle.calls.specs.Cluster.{Cluster, opened}
+use Rattle.calls.specs.Cluster.{opened}
 use Rattle.calls.specs.Recovery.{Finder}
 use Rattle.script.specs.Exact.{Exact, all_after}
 use Rattle.format.specs.declared.fault.ListFault.{ListFault}
@@ -17,7 +17,7 @@ use Rattle.format.specs.declared.fault.RunFault.{RunFault}
 use Rattle.script.specs.Course.{Reached, Ended, Goes_on, IfOpened, Runs}
 use Rattle.format.specs.Lines.{placed, ending}
 use Rattle.format.specs.Reader.{reading, size}
-use Rattle.script.specs.Run.{Left, ends, stops, open_line, call_line, outcome, operations, called, go_on, if_opened, turn, plays, plays_opened, runs}
+use Rattle.script.specs.Run.{Left, stops, open_line, call_line, outcome, operations, called, go_on, if_opened, turn, plays, plays_opened, runs}
 use Rattle.script.proofs.Courses.{inside}
 use Rattle.script.proofs.Turns.{same_turns}
 

@@ -1,5 +1,5 @@
 -- More turns than the script has bytes left change nothing: a turn that lists takes a byte of the script at least.
-use Rattle.std.proofs.Common.{◌≡◌, ℕ, zero, suc, ◌+◌, ◌-◌, ◌<◌, List, length, Some, None, Ok, Err, Option, Result, refl, ap, arith}
+use Rattle.std.proofs.Common.{◌≡◌, ℕ, zero, suc, ◌+◌, ◌-◌, ◌<◌, List, length, Some, None, Ok, Err, Option, Result, refl, arith}
 use Rattle.workload.specs.Machine.{Machine}
 use Rattle.workload.specs.Ledger.{ledger}
 use Rattle.workload.specs.Spacing.{spacing}
@@ -17,7 +17,7 @@ use Rattle.format.specs.declared.fault.ReadFault.{ReadFault}
 use Rattle.format.specs.declared.fault.RunFault.{RunFault}
 use Rattle.format.specs.Lines.{placed, ending}
 use Rattle.format.specs.Reader.{reading, size}
-use Rattle.script.specs.Run.{Left, stops, open_line, call_line, called, go_on, if_opened, turn, plays, plays_opened, runs, chosen, if_read, first_read, whole_within, EndsByItself}
+use Rattle.script.specs.Run.{Left, stops, open_line, call_line, called, go_on, if_opened, turn, plays, runs, chosen, if_read, first_read, whole_within, EndsByItself}
 use Rattle.script.proofs.Courses.{inside}
 
 module _ {S M : Type 0} (rules : Exact M) where

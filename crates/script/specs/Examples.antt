@@ -1,5 +1,5 @@
 -- Small traces that compute: what the definitions say of concrete calls.
-use Rattle.std.specs.Prelude.{◌≡◌, ℕ, ◌+◌, ◌*◌, ◌^◌, List, [], ◌∷◌, Ok, Err}
+use Rattle.std.specs.Prelude.{◌≡◌, ℕ, List, [], ◌∷◌, Ok, Err}
 use Rattle.workload.specs.Ledger.{ledger, body_of}
 use Rattle.workload.specs.declared.ledger.order.Order.TheVariants.{Credit, Transfer}
 use Rattle.network.specs.declared.refusal.Refusal.TheVariants.{NotWhole, NothingWaits}

@@ -1,14 +1,13 @@
 -- What the proofs of this crate cite of binary32: its finite values that are not negative, by their bits, and that a sum with a small one stays among them.
-use Rattle.std.proofs.Common.{◌≡◌, ℕ, zero, suc, ◌+◌, ◌-◌, ◌*◌, ◌/◌, ◌%◌, ◌^◌, ◌<◌, ◌≤◌, Bool, true, false, cond, not, T, eqb, ltb, leb, ◌⊎◌, ℤ, pos, sym, refl, ap, ◌∙◌, subst, inl, inr, true≢false, le_trans, le_of_eq, add-le-add, mul-le-mul_right, mul_assoc, mul_comm, add-mul, mul-le-mul, mul-le-mul_left, mul-pos, mul_right_comm, le_of_mul-le-mul_right, mul_left_comm, arith, le→leb, eqb→eq, leb→le, pow_pos, pow_mono}
-use lib.Dec.{nleb→lt}
-use Rattle.std.proofs.lemmas.Bool.{lt-leb, ne_eqb, leb-false, eqb-false, cases_lt, cond_both}
+use Rattle.std.proofs.Common.{◌≡◌, ℕ, zero, suc, ◌+◌, ◌-◌, ◌*◌, ◌/◌, ◌%◌, ◌^◌, ◌<◌, ◌≤◌, Bool, true, false, cond, not, T, eqb, ltb, leb, pos, sym, refl, ap, ◌∙◌, subst, inl, inr, le_trans, le_of_eq, add-le-add, mul-le-mul_right, mul_assoc, mul_comm, add-mul, mul-le-mul, mul-pos, mul_right_comm, arith, pow_pos, pow_mono}
+use Rattle.std.proofs.lemmas.Bool.{lt-leb, ne_eqb, leb-false, eqb-false, cases_lt}
 use lib.Ieee.{Float, nan, inf, fin, binary32, up, down, odd, units, round, sum, add, le, fits, is_nan, of_fields, of_bits, to_bits}
 use lib.Ieee.Fits.{down_pos, add-fits, round_is}
 use lib.Ieee.Exact.{HasValue, odd_sign}
 use lib.Ieee.Bits.{of_bits-to_bits, to_bits-lt, to_bits-of_bits}
 use lib.Ieee.Order.{round_mono}
 use Rattle.std.specs.Bool.{passes}
-use lib.Ieee.Positive.{num, den, value→cross, den_pos}
+use lib.Ieee.Positive.{num, den, value→cross}
 
 -- ---- by constructors: finite, and not negative
 

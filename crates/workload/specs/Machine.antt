@@ -1,5 +1,5 @@
 -- What hosts do: the state that each begins in, and what each makes of a message.
-use Rattle.std.specs.Prelude.{ℕ, cond, Some, None, ◌==◌}
+use Rattle.std.specs.Prelude.{ℕ, cond, None, ◌==◌}
 use Rattle.workload.specs.declared.reaction.Reaction.{Reaction}
 
 -- One message taken: the state after it, and what was sent and put out.

@@ -1,5 +1,5 @@
 -- Spacing: each host adds widths to a position, rounding once for each, and keeps the greatest width.
-use Rattle.std.specs.Prelude.{ℕ, ◌+◌, ◌*◌, ◌^◌, ◌<◌, ◌≤◌, Bool, cond, ◌&&◌, List, Some, None, Option, ◌==◌, from_bits, nat_le, nat_lt, slice_index_or, to_bits, Float}
+use Rattle.std.specs.Prelude.{ℕ, ◌+◌, ◌*◌, ◌^◌, ◌<◌, ◌≤◌, cond, ◌&&◌, List, Some, None, Option, ◌==◌, from_bits, nat_le, nat_lt, slice_index_or, to_bits, Float}
 use Rattle.std.specs.Float.{binary32}
 use Rattle.std.specs.Float.Ieee.{add, le}
 use Rattle.workload.specs.declared.fields.Fields.{Fields}

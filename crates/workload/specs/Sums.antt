@@ -2,7 +2,6 @@
 use Rattle.std.specs.Prelude.{◌≡◌, ℕ, List, [], ◌∷◌, to_bits}
 use Rattle.std.specs.Float.{binary32}
 use Rattle.workload.specs.declared.spacing.placement.Placement.{Placement}
-use Rattle.workload.specs.Machine.{Machine}
 use Rattle.workload.specs.Spacing.{spacing, at_margin, width_body}
 
 -- host 0 of two, after it took the widths with these bits from outside

@@ -34,7 +34,12 @@ fn transfers_up_to_the_balance(rt: HostRuntime) {
     check_transfer(&rt, 1, 9);
     check_transfer(&rt, 10, 0);
     check_ignored(&rt, OUTSIDE, Order::Transfer(1, 0).body(), "an amount of 0");
-    check_ignored(&rt, OUTSIDE, Order::Transfer(1, 11).body(), "one more than the balance");
+    check_ignored(
+        &rt,
+        OUTSIDE,
+        Order::Transfer(1, 11).body(),
+        "one more than the balance",
+    );
 }
 
 #[test]
@@ -45,9 +50,19 @@ fn transfers_to_other_hosts_alone(rt: HostRuntime) {
 
 #[test]
 fn senders_matter(rt: HostRuntime) {
-    check_ignored(&rt, OUTSIDE, Order::Arrival(5).body(), "an arrival from outside");
+    check_ignored(
+        &rt,
+        OUTSIDE,
+        Order::Arrival(5).body(),
+        "an arrival from outside",
+    );
     check_ignored(&rt, 1, Order::Credit(5).body(), "a credit from a host");
-    check_ignored(&rt, 1, Order::Transfer(1, 5).body(), "a transfer from a host");
+    check_ignored(
+        &rt,
+        1,
+        Order::Transfer(1, 5).body(),
+        "a transfer from a host",
+    );
     check_ignored(&rt, 1, Order::Statement.body(), "a statement from a host");
     check_ignored(&rt, OUTSIDE, 0x500_0000_0000_0001, "kind 5");
     let mut ledger = ten();

@@ -1,4 +1,4 @@
-use Rattle.std.proofs.Common.{◌≡◌, ℕ, ◌<◌, Bool, true, false, not, ◌||◌, eqb, length, sym, ◌∙◌, arith}
+use Rattle.std.proofs.Common.{ℕ, ◌<◌, Bool, not, ◌||◌, eqb, length, sym, ◌∙◌, arith}
 use Rattle.hosts.specs.View.{look}
 use Rattle.logger.specs.HostSets.{members}
 use Rattle.calls.specs.Recovery.{target}

@@ -1,4 +1,4 @@
-use Rattle.std.proofs.Common.{◌≡◌, ℕ, sym, ap, ◌∙◌, arith}
+use Rattle.std.proofs.Common.{ℕ, sym, ap, ◌∙◌, arith}
 use Rattle.hosts.specs.View.{look}
 use Rattle.logger.specs.HostSets.{members}
 use Rattle.calls.specs.Recovery.{replay, targets}

@@ -1,4 +1,4 @@
-use Rattle.std.proofs.Common.{◌-◌, ◌≤◌}
+use Rattle.std.proofs.Common.{◌≤◌}
 use Rattle.hosts.specs.View.{look}
 use Rattle.logger.specs.HostSets.{members}
 use Rattle.replay.proofs.Replaying.{Replaying}

@@ -1,4 +1,4 @@
-use Rattle.std.proofs.Common.{◌≡◌, ℕ, ◌<◌, ◌≤◌, Bool, cond, ap, ◌∙◌, add-one, arith}
+use Rattle.std.proofs.Common.{◌≡◌, ◌<◌, cond, ◌∙◌, add-one, arith}
 use Rattle.logger.specs.HostSets.{members}
 use Rattle.calls.specs.Recovery.{target}
 use Rattle.replay.proofs.Reaching.{target_low}

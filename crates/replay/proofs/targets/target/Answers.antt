@@ -1,4 +1,4 @@
-use Rattle.std.proofs.Common.{◌≡◌, ℕ, ◌+◌, true, false, is_some, Option, sym, ap, ◌∙◌, arith}
+use Rattle.std.proofs.Common.{◌≡◌, ℕ, ◌+◌, true, false, is_some, sym, ap, ◌∙◌, arith}
 use Rattle.replay.proofs.Reaching.{reach_more, reach_stops, reach_ends}
 use Rattle.replay.proofs.targets.target.Goals as goal
 

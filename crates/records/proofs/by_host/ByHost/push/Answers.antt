@@ -1,4 +1,4 @@
-use Rattle.std.proofs.Common.{◌≡◌, ℕ, ◌<◌, List, [], ◌∷◌, ◌++◌, length, get_or, sym, ap, ◌∙◌, subst, lit<, rules}
+use Rattle.std.proofs.Common.{ℕ, ◌<◌, List, [], ◌∷◌, ◌++◌, length, sym, ap, ◌∙◌, subst, lit<, rules}
 use Rattle.records.specs.Bounded.{listed}
 use Rattle.records.proofs.Views.{read_at, edited_at}
 use Rattle.records.proofs.by_host.ByHost.push.Goals as goal

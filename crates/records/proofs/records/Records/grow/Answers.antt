@@ -1,4 +1,4 @@
-use Rattle.std.proofs.Common.{◌≡◌, ◌<◌, length, sym, ap, ◌∙◌, subst, lit<, rules}
+use Rattle.std.proofs.Common.{◌<◌, length, sym, ap, ◌∙◌, subst, rules}
 use Rattle.records.specs.View.{Lists, lists, no_lists, with_taken}
 use Rattle.records.proofs.Views.{read_at, edited_at}
 use Rattle.records.proofs.records.Records.grow.Goals as goal

@@ -1,4 +1,4 @@
-use Rattle.std.proofs.Common.{◌≡◌, Ok, Err, sym, ap, ◌∙◌, arith, rules}
+use Rattle.std.proofs.Common.{Ok, Err, sym, ap, ◌∙◌, arith}
 use Rattle.script.specs.declared.run.Ran.{Ran}
 use Rattle.script.specs.Run.{left}
 use Rattle.script.proofs.Choices.{read_left}

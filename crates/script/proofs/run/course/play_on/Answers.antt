@@ -1,7 +1,6 @@
-use Rattle.std.proofs.Common.{◌≡◌, sym, ap, arith, rules}
+use Rattle.std.proofs.Common.{ap, arith, rules}
 use Rattle.cluster.specs.View.{system}
 use Rattle.script.specs.declared.run.Ran.{Ran}
-use Rattle.script.specs.Run.{left}
 use Rattle.script.proofs.Openings.{goes_on, stops_at_once}
 use Rattle.script.proofs.run.course.play_on.Goals as goal
 

@@ -1,4 +1,4 @@
-use Rattle.std.proofs.Common.{◌≡◌, ℕ, List, [], Ok, sym, refl, ap, ◌∙◌, subst, arith, rules}
+use Rattle.std.proofs.Common.{ℕ, [], Ok, sym, ap, ◌∙◌, subst, arith}
 use Rattle.cluster.specs.View.{system}
 use Rattle.script.specs.declared.run.Ran.{Ran}
 use Rattle.script.specs.Course.{Reached}
