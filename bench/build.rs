@@ -1,4 +1,4 @@
-//! Links the archive that `rt staticlib script` makes.
+//! Links the archive that `tools/archive` makes.
 
 use std::path::Path;
 
@@ -10,6 +10,6 @@ fn main() {
         println!("cargo::rustc-link-search=native={}", folder.display());
         println!("cargo::rustc-link-lib=static=script");
     } else {
-        println!("cargo::error={} is not there: run `rt staticlib script` in the repository first", archive.display());
+        println!("cargo::error={} is not there: run `tools/archive` in the repository first", archive.display());
     }
 }

@@ -1,7 +1,7 @@
 /* Batsgomi: plays a script of message-logging commands and writes its listing.
  *
  * docs/FORMAT.md says what scripts and listings are, byte by byte. Link
- * target/staticlib/libscript.a, which `rt staticlib script` makes; of the C
+ * target/staticlib/libscript.a, which `tools/archive` makes; of the C
  * library it needs memcpy and memset alone. */
 
 #ifndef BATSGOMI_H
