@@ -1,21 +1,10 @@
 //! Plays the script on standard input, and writes its listing, and the line of a stop, to standard output.
 #![tactic(auto)]
 
-use format::fault::Stop;
-use format::line::ROOM;
-use format::listing::write_stop;
+use format::line::Line;
 use script::run::{MOST, play};
 use std::io;
 use std::io::{Read, Write};
-
-/// The line of a stop has room of its own, so that a full listing does not hide it.
-fn print_stop(rt: &HostRuntime, stop: &Stop) -> io::Result<()> {
-    let mut room = [0u8; ROOM];
-    match write_stop(&mut room, stop) {
-        Ok(end) => rt.stdout().write_all(&room[0..end]),
-        Err(_) => Ok(()),
-    }
-}
 
 fn main(rt: HostRuntime) -> io::Result<()> {
     let heap = rt.alloc();
@@ -28,7 +17,7 @@ fn main(rt: HostRuntime) -> io::Result<()> {
     let written = ran.written;
     rt.stdout().write_all(&bytes[0..written])?;
     match ran.stop {
-        Some(stop) => print_stop(&rt, &stop),
+        Some(stop) => rt.stdout().write_all(Line::of_stop(&stop).as_slice()),
         None => Ok(()),
     }
 }

@@ -14,7 +14,7 @@ pub record Carried (n f : ℕ) (down : ℕ → Bool) (s p : ℕ) (c c' : Holding
   pub step : Step n down c c' (λ h y. (h ≡ p) × (source_of (c s) ≡ Some y))
   pub carried : (y : Source) → source_of (c s) ≡ Some y → (source_of (c' p) ≡ Some y) ⊎ (f < vouchers n down c' y)
 
-module _ (n f : ℕ) (down : ℕ → Bool) (c : Holdings) (s p : ℕ) (order : InOrder n down c) (to-host : p < n) (to_up : down p ≡ false) (apart : s ≢ p) where
+module _ (n f : ℕ) (down : ℕ → Bool) (c : Holdings) (s p : ℕ) (order : InOrder n down c) (to_host : p < n) (to_up : down p ≡ false) (apart : s ≢ p) where
   -- s, which knows at most f holders, holds e
   module _ (e : Holding) (from : Holds n down c s e) where
     moved : Holdings
@@ -62,7 +62,7 @@ module _ (n f : ℕ) (down : ℕ → Bool) (c : Holdings) (s p : ℕ) (order : I
     by_p : (k : ℕ) → (taken (c p) e p).holders k ≡ true → (k < n) × Vouched down moved e.source k
     by_p k y =
         ⊎_elim
-        (λ t. ⊎_elim (λ z. let w = known_of (c p) k z in knows p k w.0 (record { host = to-host; up = to_up; has = w.1 }) w.2) (knows s k e from) (or_cases (holders_of (c p) k) (e.holders k) t))
+        (λ t. ⊎_elim (λ z. let w = known_of (c p) k z in knows p k w.0 (record { host = to_host; up = to_up; has = w.1 }) w.2) (knows s k e from) (or_cases (holders_of (c p) k) (e.holders k) t))
         (itself k)
         (or_cases (holders_of (c p) k || e.holders k) (k == p) y)
 

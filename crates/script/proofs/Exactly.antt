@@ -14,7 +14,7 @@ use Rattle.script.specs.Exact.{Exact, all_after}
 use Rattle.format.specs.declared.fault.ListFault.{ListFault}
 use Rattle.format.specs.declared.fault.ReadFault.{ReadFault}
 use Rattle.format.specs.declared.fault.RunFault.{RunFault}
-use Rattle.script.specs.Course.{Reached, Ended, Goes_on, IfOpened, Runs}
+use Rattle.script.specs.Course.{Reached, Ended, GoesOn, IfOpened, Runs}
 use Rattle.format.specs.Lines.{placed, ending}
 use Rattle.format.specs.Reader.{reading, size}
 use Rattle.script.specs.Run.{Left, stops, open_line, call_line, outcome, operations, called, go_on, if_opened, turn, plays, plays_opened, runs}
@@ -91,7 +91,7 @@ module _ {L S M : Type 0} (log : logger.Ghosts L) (rules : Exact M) (view : L �
   runs_left machine n f s xs p = go (checked (open_checks n f))
     where
       after : (l : L) → view l ≡ rules.fresh n f → (t : List Made) (b : System S L) (o : Result ℕ ListFault)
-          → Goes_on log s xs o (record { cluster = opened (machine n) n f; logger = l }) t b p
+          → GoesOn log s xs o (record { cluster = opened (machine n) n f; logger = l }) t b p
           → p ≡ go_on o (λ end. plays rules (suc (length s)) s 5 2 (placed xs 0 open_line) end (record { cluster = opened (machine n) n f; logger = rules.fresh n f }))
           (λ e. stops xs 0 (RunFault.Listing e) 1 0)
       after l fresh t b (Ok end) E =

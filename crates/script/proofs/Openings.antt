@@ -14,7 +14,7 @@ use Rattle.calls.proofs.Laws.{Laws}
 use Rattle.format.specs.declared.fault.ListFault.{ListFault}
 use Rattle.format.specs.declared.fault.RunFault.{RunFault}
 use Rattle.script.specs.declared.run.Ran.{Ran}
-use Rattle.script.specs.Course.{OpenListed, first_listed, open_value, open_listing, Reached, Ended, Finished, Goes_on, IfOpened, Runs}
+use Rattle.script.specs.Course.{OpenListed, first_listed, open_value, open_listing, Reached, Ended, Finished, GoesOn, IfOpened, Runs}
 use Rattle.format.specs.Lines.{placed, ending}
 use Rattle.script.specs.Run.{Left, left, stopping, stops, open_line}
 use Rattle.format.proofs.Endings.{placed_full}
@@ -72,7 +72,7 @@ module _ {L S : Type 0} (log : logger.Ghosts L) (laws : Laws log) (machine : ℕ
             start = o.2;
             calls = F.calls;
             system = F.system;
-            course = subst (λ (r : Result ℕ ListFault). Goes_on log s before r start_of F.calls F.system p) (sym put) ended;
+            course = subst (λ (r : Result ℕ ListFault). GoesOn log s before r start_of F.calls F.system p) (sym put) ended;
             guaranteed = made_all log laws machine n f F.calls F.calls F.system ok
                 (ended_trace log (machine n) n f s start_of 5 2 (placed before 0 open_line) end (Trace.opens o.2) ended) refl;
           }
@@ -101,7 +101,7 @@ module _ {L S : Type 0} (log : logger.Ghosts L) (laws : Laws log) (machine : ℕ
             start = o.2;
             calls = [];
             system = start_of;
-            course = subst (λ (r : Result ℕ ListFault). Goes_on log s before r start_of [] start_of (stops ys 0 fault 1 0)) (sym full.1) (refl, refl, same _ lists full.2);
+            course = subst (λ (r : Result ℕ ListFault). GoesOn log s before r start_of [] start_of (stops ys 0 fault 1 0)) (sym full.1) (refl, refl, same _ lists full.2);
             guaranteed = made_all log laws machine n f [] [] start_of ok (Trace.opens o.2) refl;
           }
       go (Err e) ok h =

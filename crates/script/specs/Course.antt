@@ -85,9 +85,9 @@ module _ {L S : Type 0} (log : logger.Ghosts L) (s : List ℕ) (a₀ : System S 
     pub ended : Ended calls system p
 
 -- After an accepted open the run goes on if the line of that fits.
-abbrev pub Goes_on : {L S : Type 0} → logger.Ghosts L → List ℕ → List ℕ → Result ℕ ListFault → System S L → List Made → System S L → Left → Type 0
-Goes_on log s before (Ok end) a t b p = Ended log s a past_open 2 (placed before 0 open_line) end t b p
-Goes_on log s before (Err e) a t b p = (t ≡ []) × (b ≡ a) × (p ≡ stops before 0 (RunFault.Listing e) 1 0)
+abbrev pub GoesOn : {L S : Type 0} → logger.Ghosts L → List ℕ → List ℕ → Result ℕ ListFault → System S L → List Made → System S L → Left → Type 0
+GoesOn log s before (Ok end) a t b p = Ended log s a past_open 2 (placed before 0 open_line) end t b p
+GoesOn log s before (Err e) a t b p = (t ≡ []) × (b ≡ a) × (p ≡ stops before 0 (RunFault.Listing e) 1 0)
 
 module _ {L S : Type 0} (log : logger.Ghosts L) (machine : ℕ → Machine S) (n f : ℕ) (s before : List ℕ) where
   -- THE CALLS of a run whose open is accepted, with the recovery guarantee of them
@@ -97,7 +97,7 @@ module _ {L S : Type 0} (log : logger.Ghosts L) (machine : ℕ → Machine S) (n
     pub start : log.acts (Operation.start n f) old new
     pub calls : List Made
     pub system : System S L
-    pub course : Goes_on log s before (ending before 0 open_line) (record { cluster = opened (machine n) n f; logger = new }) calls system p
+    pub course : GoesOn log s before (ending before 0 open_line) (record { cluster = opened (machine n) n f; logger = new }) calls system p
     pub guaranteed : MadeAll log machine n f calls calls system
 
   -- A refused open stops the run before any other call.
