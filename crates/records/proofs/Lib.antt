@@ -1,3 +1,4 @@
 pub mod Lists
 pub mod Sends
+pub mod Indexes
 pub mod Views

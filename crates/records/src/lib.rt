@@ -5,3 +5,4 @@ mod bounded;
 pub mod by_host;
 mod record;
 pub mod records;
+mod send_index;

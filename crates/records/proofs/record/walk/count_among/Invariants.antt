@@ -1,6 +1,6 @@
 use Rattle.std.proofs.Common.{◌≡◌, ◌+◌, ◌≤◌, drop}
 use Rattle.network.specs.Network.{count_from}
-use Rattle.records.proofs.record.HostRecord.received_from.Given as goal
+use Rattle.records.proofs.record.walk.count_among.Given as goal
 
 -- what was counted, with what is left to count
 abbrev pub invariant-loop-receipt : goal.invariant-loop-receipt

@@ -1,7 +1,7 @@
 use Rattle.std.proofs.Common.{◌≡◌, drop}
 use Rattle.std.specs.List.{slice_get}
 use Rattle.network.specs.Network.{bodies_to}
-use Rattle.records.proofs.record.HostRecord.sent_to.Given as goal
+use Rattle.records.proofs.record.walk.find_among.Given as goal
 
 -- the body looked for is among those that are left
 abbrev pub invariant-loop-send : goal.invariant-loop-send
