@@ -4,4 +4,5 @@
 
 pub mod message;
 pub mod refusal;
+pub mod seq_no;
 pub mod theory;

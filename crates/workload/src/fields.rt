@@ -12,14 +12,15 @@ pub struct Fields {
     pub low: u32,
 }
 
-impl Fields {
-    pub fn of(body: u64) -> Fields
-        ensures { result ≡ fields body }
-    {
+impl From<u64> for Fields {
+    ghost from_gives = { λ body parts. parts ≡ fields body };
+
+    fn from(body: u64) -> Fields {
+        let [kind, _, _, target, a, b, c, d] = body.to_be_bytes();
         Fields {
-            kind: (body >> 56) as u8,
-            target: (body / 0x1_0000_0000 % 0x100) as u8,
-            low: (body % 0x1_0000_0000) as u32,
+            kind,
+            target,
+            low: u32::from_be_bytes([a, b, c, d]),
         }
     }
 }

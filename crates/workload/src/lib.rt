@@ -2,14 +2,20 @@
 //! The licence ledger and the spacing of music are the two that ship.
 #![tactic(auto)]
 
-ghost use Rattle.std.specs.Prelude.{◌≡◌, ℕ, ◌<◌, ◌≤◌, ◌≢◌, Some};
+ghost use Rattle.std.specs.Prelude.{◌≡◌, ℕ, ◌<◌, ◌≢◌, Some};
 ghost use Rattle.workload.specs.Machine.{Machine, replaced};
 
+use host::Host;
+use host_count::HostCount;
 use reaction::Reaction;
 
 pub mod fields;
+pub mod host;
+pub mod host_count;
+pub mod host_range;
 pub mod ledger;
 pub mod reaction;
+pub mod sender;
 pub mod spacing;
 
 /// The sender number of the outside world. Hosts are numbered from 0, so at most eight of them leave it free.
@@ -17,8 +23,7 @@ pub const OUTSIDE: u8 = 8;
 
 /// A workload is known by its number of hosts and a state for each of them. No method refuses.
 ///
-/// Each method is asked of any host below 8, the most there can be, and not only of those below n:
-/// so whoever calls it need not know what n is now.
+/// Each method is asked of any host, and not only of those below n: so whoever calls it need not know what n is now.
 pub trait Workload {
     /// What one host holds.
     type State;
@@ -33,27 +38,23 @@ pub trait Workload {
     ghost machine: { ℕ → Machine Self.State };
 
     /// n hosts, each in its first state.
-    fn start(&mut self, n: u8)
-        requires { n ≤ 8 }
+    fn start(&mut self, n: HostCount)
         ensures hosts { hosts self.new ≡ n }
         ensures state { state self.new ≡ (machine n).first };
 
     /// Host p is in its first state again.
-    fn reset(&mut self, p: u8)
-        requires { p < 8 }
+    fn reset(&mut self, p: Host)
         ensures hosts { hosts self.new ≡ hosts self.old }
         ensures state { state self.new ≡ replaced (state self.old) p ((machine (hosts self.old)).first p) };
 
     /// Host p takes a message from s: its state alone is replaced, and the answer is what it sends and puts out.
-    fn step(&mut self, p: u8, s: u8, body: u64) -> Reaction
-        requires { p < 8 }
+    fn step(&mut self, p: Host, s: u8, body: u64) -> Reaction
         ensures hosts { hosts self.new ≡ hosts self.old }
         ensures state { state self.new ≡ replaced (state self.old) p ((machine (hosts self.old)).rule p (state self.old p) s body).state }
         ensures reaction { result ≡ ((machine (hosts self.old)).rule p (state self.old p) s body).reaction };
 
     /// One number that stands for the state of host p.
-    fn show(&self, p: u8) -> u64
-        requires { p < 8 }
+    fn show(&self, p: Host) -> u64
         ensures { result ≡ (machine (hosts self.now)).shown (state self.now p) };
 
     /// A message goes to another host.

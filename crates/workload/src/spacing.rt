@@ -1,9 +1,11 @@
-ghost use Rattle.std.specs.Prelude.{◌≡◌, ◌<◌, replicate};
+ghost use Rattle.std.specs.Prelude.{◌≡◌, replicate};
 ghost use Rattle.workload.specs.Spacing.{spacing, at_margin, placement_at, onward, barline_output, reacted};
 ghost use Rattle.std.proofs.Common.{rules};
 
 use crate::Workload;
 use crate::fields::Fields;
+use crate::host::Host;
+use crate::host_count::HostCount;
 use crate::reaction::Reaction;
 use mark::Mark;
 use placement::Placement;
@@ -18,7 +20,7 @@ mod table;
 /// The spacing of music: a position and a greatest width for each host.
 #[derive(Drop)]
 pub struct Spacing {
-    n: u8,
+    n: HostCount,
     table: Table,
 }
 
@@ -29,29 +31,28 @@ impl Spacing {
         ensures table { result.table.hosts ≡ replicate 8 at_margin }
     {
         Spacing {
-            n: 0,
+            n: HostCount::new(0),
             table: Table::new(),
         }
     }
 
     /// Where host p sends a body on to: the next host, if there is one.
-    fn onward(&self, p: u8, body: u64) -> Option<(u8, u64)>
-        requires { p < 8 }
+    fn onward(&self, p: Host, body: u64) -> Option<(u8, u64)>
         ensures { result ≡ onward self.now.n p body }
     {
-        if p + 1 < self.n {
-            Some((p + 1, body))
+        let next = p.number() + 1;
+        if next < self.n.number() {
+            Some((next, body))
         } else {
             None
         }
     }
 
     /// What host p puts out on a barline: its numbers, if it is the last.
-    fn statement(&self, p: u8) -> Option<u64>
-        requires { p < 8 }
+    fn statement(&self, p: Host) -> Option<u64>
         ensures { result ≡ barline_output self.now.n p (placement_at self.now.table.hosts p) }
     {
-        if p + 1 < self.n {
+        if p.number() + 1 < self.n.number() {
             None
         } else {
             Some(self.show(p))
@@ -59,8 +60,7 @@ impl Spacing {
     }
 
     /// What host p sends and puts out when it takes a body with this mark.
-    fn react(&self, p: u8, body: u64, mark: Option<Mark>) -> Reaction
-        requires { p < 8 }
+    fn react(&self, p: Host, body: u64, mark: Option<Mark>) -> Reaction
         ensures { result ≡ reacted self.now.n p (placement_at self.now.table.hosts p) body mark }
     {
         match mark {
@@ -88,23 +88,23 @@ impl Workload for Spacing {
 
     ghost addressed = { Prim.search rules };
 
-    fn start(&mut self, n: u8) {
+    fn start(&mut self, n: HostCount) {
         self.n = n;
         self.table = Table::new();
     }
 
-    fn reset(&mut self, p: u8) {
+    fn reset(&mut self, p: Host) {
         self.table.reset(p);
     }
 
-    fn step(&mut self, p: u8, _s: u8, body: u64) -> Reaction {
-        let mark = Mark::read(Fields::of(body));
+    fn step(&mut self, p: Host, _s: u8, body: u64) -> Reaction {
+        let mark = Mark::read(Fields::from(body));
         let reaction = self.react(p, body, mark);
         self.table.place(p, mark);
         reaction
     }
 
-    fn show(&self, p: u8) -> u64 {
+    fn show(&self, p: Host) -> u64 {
         self.table.show(p)
     }
 }

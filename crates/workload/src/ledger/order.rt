@@ -42,12 +42,15 @@ impl Order {
         }
     }
 
-    /// The body of the message that gives this order.
-    pub fn body(self) -> u64
-        ensures { result ≡ body_of self }
-    {
-        let high = self.kind() as u64 * 0x100_0000_0000_0000;
-        match self {
+}
+
+/// The body of the message that gives an order.
+impl From<Order> for u64 {
+    ghost from_gives = { λ order body. body ≡ body_of order };
+
+    fn from(order: Order) -> u64 {
+        let high = order.kind() as u64 * 0x100_0000_0000_0000;
+        match order {
             Order::Credit(amount) | Order::Arrival(amount) => high + amount as u64,
             Order::Transfer(to, amount) => high + to as u64 * 0x1_0000_0000 + amount as u64,
             Order::Statement => high,

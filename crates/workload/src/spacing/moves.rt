@@ -1,10 +1,11 @@
-ghost use Rattle.std.specs.Prelude.{◌≡◌, ◌<◌, replicate};
+ghost use Rattle.std.specs.Prelude.{◌≡◌, replicate};
 ghost use Rattle.workload.specs.Machine.{replaced};
 ghost use Rattle.workload.specs.Spacing.{Steady, TakenWidth, at_margin, placement_at, widened, placed, both_bits};
 
 use super::mark::Mark;
 use super::placement::Placement;
 use super::table::Table;
+use crate::host::Host;
 
 impl Placement {
     /// At the margin, with no width yet.
@@ -59,27 +60,25 @@ impl Table {
     }
 
     /// Host p is at the margin again.
-    pub fn reset(&mut self, p: u8)
-        requires { p < 8 }
+    pub fn reset(&mut self, p: Host)
         ensures { placement_at self.new.hosts ≡ replaced (placement_at self.old.hosts) p at_margin }
     {
-        self.hosts[p as usize] = Placement::new();
+        self.hosts[p.index()] = Placement::new();
     }
 
     /// Host p takes a mark.
-    pub fn place(&mut self, p: u8, mark: Option<Mark>)
-        requires { (p < 8) × (TakenWidth mark) }
+    pub fn place(&mut self, p: Host, mark: Option<Mark>)
+        requires { TakenWidth mark }
         ensures { placement_at self.new.hosts ≡ replaced (placement_at self.old.hosts) p (placed (placement_at self.old.hosts p) mark) }
     {
-        let old = self.hosts[p as usize];
-        self.hosts[p as usize] = old.place(mark);
+        let old = self.hosts[p.index()];
+        self.hosts[p.index()] = old.place(mark);
     }
 
     /// The number that stands for host p.
-    pub fn show(&self, p: u8) -> u64
-        requires { p < 8 }
+    pub fn show(&self, p: Host) -> u64
         ensures { result ≡ both_bits (placement_at self.now.hosts p) }
     {
-        self.hosts[p as usize].bits()
+        self.hosts[p.index()].bits()
     }
 }

@@ -1,0 +1,56 @@
+ghost use Rattle.std.specs.Prelude.{◌≡◌, ℕ, ◌≤◌, cond, Some, None, nat_lt};
+ghost use Rattle.std.specs.List.{range_with_len};
+
+use crate::host::Host;
+use crate::host_range::HostRange;
+use std::marker::Model;
+
+/// How many hosts there are: at most eight.
+#[derive(Clone, Copy, PartialEq, Eq, Debug)]
+pub struct HostCount {
+    number: u8,
+}
+
+impl Model for HostCount {
+    ghost Value = { ℕ };
+
+    ghost view = { λ n. n.number };
+
+    ghost invariant = { λ n. n.number ≤ 8 };
+
+    ghost inverse = { λ n. record { number = n } };
+}
+
+impl HostCount {
+    pub const fn new(number: u8) -> HostCount
+        requires { number ≤ 8 }
+        ensures { result ≡ number }
+    {
+        HostCount { number }
+    }
+
+    pub const fn number(self) -> u8
+        ensures value { result ≡ self }
+        ensures few { result ≤ 8 }
+    {
+        self.number
+    }
+
+    /// The host of this number, if there is one.
+    pub fn host(self, number: u8) -> Option<Host>
+        ensures { result ≡ cond (nat_lt number self) (Some number) None }
+    {
+        if number < self.number {
+            Some(Host::new(number))
+        } else {
+            None
+        }
+    }
+
+    /// The hosts, lowest first.
+    pub fn hosts(self) -> HostRange
+        ensures { result ≡ range_with_len 0 self }
+    {
+        HostRange::below(self)
+    }
+}
