@@ -38,6 +38,8 @@ impl SeqNo {
 
 /// The first.
 impl Default for SeqNo {
+    ghost is_default = { λ k. k ≡ 1 };
+
     fn default() -> SeqNo {
         SeqNo::after(0)
     }

@@ -54,6 +54,8 @@ impl From<Host> for Sender {
 }
 
 impl Default for Sender {
+    ghost is_default = { λ s. s ≡ 8 };
+
     fn default() -> Sender {
         Sender::OUTSIDE
     }
