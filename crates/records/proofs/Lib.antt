@@ -1,4 +1,4 @@
-pub mod Lists
+pub mod Blank
 pub mod Sends
-pub mod Indexes
-pub mod Views
+pub mod Filing
+pub mod Tables

@@ -1,3 +1,2 @@
-pub mod Bounded
-pub mod Index
 pub mod View
+pub mod Index

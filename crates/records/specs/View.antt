@@ -7,7 +7,6 @@ use Rattle.network.specs.Host.{optional, receipt_of}
 use Rattle.records.specs.declared.by_host.ByHost.{ByHost}
 use Rattle.records.specs.declared.record.HostRecord.{HostRecord}
 use Rattle.records.specs.declared.records.Records.{Records}
-use Rattle.records.specs.Bounded.{listed}
 
 -- the lists of one host's record
 pub record Lists : Type 0 where
@@ -16,7 +15,7 @@ pub record Lists : Type 0 where
   pub outputs : List ℕ
 
 abbrev pub lists : HostRecord → Lists
-lists r = record { receipts = listed r.receipts; sends = listed r.sends; outputs = listed r.outputs }
+lists r = record { receipts = r.receipts.items; sends = r.sends.items; outputs = r.outputs.items }
 
 abbrev pub no_lists : Lists
 no_lists = record { receipts = []; sends = []; outputs = [] }
@@ -31,4 +30,4 @@ lists_of x h = slice_index_or (map lists x.records) h no_lists
 
 -- the list of each host
 abbrev pub row : ByHost → ℕ → List ℕ
-row x h = slice_index_or (map listed x.lists) h []
+row x h = (slice_index_or x.lists h (record { items = [] })).items

@@ -1,8 +1,6 @@
 //! Tables of what each host received, sent and put out, and of what belongs to the outside world. Nothing allocates.
 #![tactic(auto)]
 
-mod bounded;
 pub mod by_host;
 mod record;
 pub mod records;
-mod send_index;

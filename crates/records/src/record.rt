@@ -1,41 +1,26 @@
 ghost use Rattle.std.specs.Prelude.{◌≡◌, ◌≤◌, length};
-ghost use Rattle.records.specs.Bounded.{listed};
-ghost use Rattle.records.specs.Index.{Counted, SentCounted, SentWithin, SentPlaced};
+ghost use Rattle.records.specs.Index.{Counted, Filed};
 
-use crate::bounded::Bounded;
-use crate::send_index::SendIndex;
+use crate::by_host::ByHost;
+use arrayvec::ArrayVec;
 use network::message::Receipt;
 
 mod grow;
-mod walk;
+mod reads;
 
 /// What one host received, sent and put out, in order. A message gives at most one send and one output, so
 /// there are never more of either than receipts.
 #[derive(Drop)]
 pub struct HostRecord {
-    receipts: Bounded<Receipt>,
-    sends: Bounded<(u8, u64)>,
-    outputs: Bounded<u64>,
+    receipts: ArrayVec<Receipt, 64>,
+    sends: ArrayVec<(u8, u64), 64>,
+    outputs: ArrayVec<u64, 64>,
     /// How many receipts there are from each sender.
     taken: [u8; 9],
-    /// Where the sends to each host stand.
-    sent: SendIndex,
-    ghost replies: { length (listed sends) ≤ length (listed receipts) },
-    ghost statements: { length (listed outputs) ≤ length (listed receipts) },
-    ghost nine: { length taken ≡ 9 },
-    ghost counted: { Counted taken (listed receipts) },
-    ghost sent_counted: { SentCounted sent.counts (listed sends) },
-    ghost sent_within: { SentWithin sent.places (listed sends) },
-    ghost sent_placed: { SentPlaced sent.places (listed sends) },
-}
-
-impl HostRecord {
-    /// A host that has taken nothing.
-    pub const EMPTY: HostRecord = HostRecord {
-        receipts: Bounded::<Receipt>::NO_RECEIPTS,
-        sends: Bounded::<(u8, u64)>::NO_SENDS,
-        outputs: Bounded::<u64>::NO_NUMBERS,
-        taken: [0; 9],
-        sent: SendIndex::EMPTY,
-    };
+    /// The bodies of the sends to each host.
+    sent: ByHost,
+    ghost replies: { length sends.items ≤ length receipts.items },
+    ghost statements: { length outputs.items ≤ length receipts.items },
+    ghost counted: { Counted taken receipts.items },
+    ghost filed: { Filed sent sends.items },
 }

@@ -4,18 +4,16 @@ use std::marker::Model;
 
 /// The number of a host. There are never more than eight, and they are numbered from 0.
 #[derive(Clone, Copy, PartialEq, Eq, Debug)]
-pub struct Host {
-    number: u8,
-}
+pub struct Host(u8);
 
 impl Model for Host {
     ghost Value = { ℕ };
 
-    ghost view = { λ h. h.number };
+    ghost view = { λ h. h.0 };
 
-    ghost invariant = { λ h. h.number < 8 };
+    ghost invariant = { λ h. h.0 < 8 };
 
-    ghost inverse = { λ n. record { number = n } };
+    ghost inverse = { λ n. record { 0 = n } };
 }
 
 impl Host {
@@ -23,14 +21,14 @@ impl Host {
         requires { number < 8 }
         ensures { result ≡ number }
     {
-        Host { number }
+        Host(number)
     }
 
     pub const fn number(self) -> u8
         ensures value { result ≡ self }
         ensures low { result < 8 }
     {
-        self.number
+        self.0
     }
 
     /// Where a table of eight has its place for the host.
@@ -38,6 +36,6 @@ impl Host {
         ensures value { result ≡ self }
         ensures low { result < 8 }
     {
-        self.number as usize
+        self.number() as usize
     }
 }

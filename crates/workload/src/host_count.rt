@@ -7,40 +7,41 @@ use std::marker::Model;
 
 /// How many hosts there are: at most eight.
 #[derive(Clone, Copy, PartialEq, Eq, Debug)]
-pub struct HostCount {
-    number: u8,
-}
+pub struct HostCount(u8);
 
 impl Model for HostCount {
     ghost Value = { ℕ };
 
-    ghost view = { λ n. n.number };
+    ghost view = { λ n. n.0 };
 
-    ghost invariant = { λ n. n.number ≤ 8 };
+    ghost invariant = { λ n. n.0 ≤ 8 };
 
-    ghost inverse = { λ n. record { number = n } };
+    ghost inverse = { λ n. record { 0 = n } };
 }
 
 impl HostCount {
+    /// As many as there can be.
+    pub const MOST: HostCount = HostCount(8);
+
     pub const fn new(number: u8) -> HostCount
         requires { number ≤ 8 }
         ensures { result ≡ number }
     {
-        HostCount { number }
+        HostCount(number)
     }
 
     pub const fn number(self) -> u8
         ensures value { result ≡ self }
         ensures few { result ≤ 8 }
     {
-        self.number
+        self.0
     }
 
     /// The host of this number, if there is one.
     pub fn host(self, number: u8) -> Option<Host>
         ensures { result ≡ cond (nat_lt number self) (Some number) None }
     {
-        if number < self.number {
+        if number < self.number() {
             Some(Host::new(number))
         } else {
             None

@@ -6,37 +6,43 @@ use std::marker::Model;
 
 /// Who sent a message: a host, by its number, or the outside world.
 #[derive(Clone, Copy, PartialEq, Eq, Debug)]
-pub struct Sender {
-    number: u8,
-}
+pub struct Sender(u8);
 
 impl Model for Sender {
     ghost Value = { ℕ };
 
-    ghost view = { λ s. s.number };
+    ghost view = { λ s. s.0 };
 
-    ghost invariant = { λ s. s.number ≤ 8 };
+    ghost invariant = { λ s. s.0 ≤ 8 };
 
-    ghost inverse = { λ n. record { number = n } };
+    ghost inverse = { λ n. record { 0 = n } };
 }
 
 impl Sender {
     /// The outside world.
-    pub const OUTSIDE: Sender = Sender { number: OUTSIDE };
+    pub const OUTSIDE: Sender = Sender(OUTSIDE);
 
     pub const fn number(self) -> u8
         ensures value { result ≡ self }
         ensures most { result ≤ 8 }
     {
-        self.number
+        self.0
+    }
+
+    /// Where a table of nine has its place for the sender.
+    pub const fn index(self) -> usize
+        ensures value { result ≡ self }
+        ensures most { result ≤ 8 }
+    {
+        self.number() as usize
     }
 
     /// The host that sent it, if it is not the outside world.
     pub fn host(self) -> Option<Host>
         ensures { result ≡ cond (nat_lt self 8) (Some self) None }
     {
-        if self.number < OUTSIDE {
-            Some(Host::new(self.number))
+        if self.number() < OUTSIDE {
+            Some(Host::new(self.number()))
         } else {
             None
         }
@@ -47,16 +53,6 @@ impl From<Host> for Sender {
     ghost from_gives = { λ h s. s ≡ h };
 
     fn from(host: Host) -> Sender {
-        Sender {
-            number: host.number(),
-        }
-    }
-}
-
-impl Default for Sender {
-    ghost is_default = { λ s. s ≡ 8 };
-
-    fn default() -> Sender {
-        Sender::OUTSIDE
+        Sender(host.number())
     }
 }
