@@ -11,26 +11,3 @@ module _ {S X : Type 0} (feed : Feed S) (pair : X → ℕ × ℕ) (note : X → 
   pub record Feeding (v₀ : Network S) (xs₀ : List X) (v : Network S) (xs : List X) (i : ℕ) : Type 0 where
     pub network : after feed v (map pair (drop i xs)) ≡ after feed v₀ (map pair xs₀)
     pub answers : take i xs ++ answered feed pair note v (drop i xs) ≡ answered feed pair note v₀ xs₀
-
-  module _ (v₀ : Network S) (xs₀ : List X) (v : Network S) (xs : List X) (i : ℕ) where
-    pub feeding_more :
-        (d : X) (r : Result ℕ Refusal) (w : Network S) → i < length xs → feed v (pair (get_or xs i d)).0 (pair (get_or xs i d)).1 ≡ (r, w)
-        → Feeding v₀ xs₀ v xs i → Feeding v₀ xs₀ w (set xs i (note (get_or xs i d) r)) (i + 1)
-    feeding_more d r w l fed f = record {
-      network = ap (λ (ys : List X). after feed w (map pair ys)) behind
-          ∙ ap (λ (z : Result ℕ Refusal × Network S). after feed z.1 (map pair (drop (i + 1) xs))) (sym fed)
-          ∙ sym (at_drop_more (λ ys. after feed v (map pair ys)) xs i d l) ∙ f.network;
-      answers = rw (behind, take_more_set xs i (note (get_or xs i d) r) l, append_assoc)
-          (ap (λ (z : Result ℕ Refusal × Network S). take i xs ++ (note (get_or xs i d) z.0 ∷ answered feed pair note z.1 (drop (i + 1) xs))) (sym fed)
-          ∙ sym (at_drop_more (λ ys. take i xs ++ answered feed pair note v ys) xs i d l) ∙ f.answers);
-    }
-      where
-        behind : drop (i + 1) (set xs i (note (get_or xs i d) r)) ≡ drop (i + 1) xs
-        behind = drop-set-lt (i + 1) xs i (note (get_or xs i d) r) (omega arith)
-
-    pub feeding_all : length xs ≤ i → Feeding v₀ xs₀ v xs i → (v ≡ after feed v₀ (map pair xs₀)) × (xs ≡ answered feed pair note v₀ xs₀)
-    feeding_all l f = (
-      sym (at_drop_all (λ ys. after feed v (map pair ys)) xs i l) ∙ f.network,
-      sym (ap (λ (ys : List X). ys ++ []) (take_all i xs l) ∙ append-nil xs)
-          ∙ sym (at_drop_all (λ ys. take i xs ++ answered feed pair note v ys) xs i l) ∙ f.answers,
-    )

@@ -25,6 +25,11 @@ abbrev pub checked : List (Bool × Refusal) → Result (Unit {0}) Refusal
 checked [] = Ok tt
 checked (c ∷ cs) = cond c.0 (checked cs) (Err c.1)
 
+-- what is given where no check fails
+abbrev pub giving : {A : Type 0} → A → Result (Unit {0}) Refusal → Result A Refusal
+giving x (Ok u) = Ok x
+giving x (Err e) = Err e
+
 -- An answer with what is left: a call that is refused leaves everything as it was.
 abbrev pub unless_refused : {A : Type 0} → Result (Unit {0}) Refusal → A → Result ℕ Refusal × A → Result ℕ Refusal × A
 unless_refused (Ok u) before done = done

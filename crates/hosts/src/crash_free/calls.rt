@@ -1,10 +1,9 @@
-ghost use Rattle.std.specs.Prelude.{◌≡◌, [], ◌∷◌};
-ghost use Rattle.network.specs.Checks.{checked};
-ghost use Rattle.network.specs.Network.{unstarted, host_check, post_check, posting, delivering, starting, showing, output_at};
+ghost use Rattle.std.specs.Prelude.{◌≡◌};
+ghost use Rattle.network.specs.Network.{unstarted, posting, delivering, starting, showing, output_at};
 ghost use Rattle.hosts.specs.View.{look};
 
 use super::CrashFree;
-use crate::hosts::Hosts;
+use crate::hosts::{Hosts, check_count};
 use network::refusal::Refusal;
 use workload::Workload;
 
@@ -22,43 +21,37 @@ impl<W: Workload> CrashFree<W> {
     pub fn start(&mut self, n: u8) -> Result<u64, Refusal>
         ensures { starting W.Workload (look W.Workload self.old.hosts) n ≡ (result, look W.Workload self.new.hosts) }
     {
-        if n < 2 || n > 8 {
-            return Err(Refusal::HostCount);
-        }
+        let n = check_count(n)?;
         self.hosts.start(n);
         Ok(0)
-    }
-
-    fn check_post(&self, p: u8) -> Result<(), Refusal>
-        ensures { result ≡ checked (host_check (look W.Workload self.now.hosts) p ∷ post_check (look W.Workload self.now.hosts) p ∷ []) }
-    {
-        self.hosts.check_host(p)?;
-        if self.hosts.posts(p) >= 64 {
-            return Err(Refusal::PostsFull);
-        }
-        Ok(())
     }
 
     /// The outside world posts a body to host p. Answers its ssn.
     pub fn post(&mut self, p: u8, body: u64) -> Result<u64, Refusal>
         ensures { posting (look W.Workload self.old.hosts) p body ≡ (result, look W.Workload self.new.hosts) }
     {
-        self.check_post(p)?;
-        let ssn = self.hosts.posts(p) + 1;
-        self.hosts.add_post(p, body);
-        Ok(ssn as u64)
+        let host = self.hosts.check_host(p)?;
+        let posts = self.hosts.posts(host);
+        if posts >= 64 {
+            return Err(Refusal::PostsFull);
+        }
+        self.hosts.add_post(host, body);
+        Ok(posts as u64 + 1)
     }
 
     /// Host p takes the next message from s. Answers its ssn.
     pub fn deliver(&mut self, p: u8, s: u8) -> Result<u64, Refusal>
         ensures { delivering (look W.Workload self.old.hosts) p s ≡ (result, look W.Workload self.new.hosts) }
     {
-        self.hosts.check_pair(p, s)?;
-        let message = self.hosts.waiting(p, s).ok_or(Refusal::NothingWaits)?;
-        if self.hosts.receipts(p) >= 64 {
+        let (host, sender) = self.hosts.check_pair(p, s)?;
+        let message = self
+            .hosts
+            .waiting(host, sender)
+            .ok_or(Refusal::NothingWaits)?;
+        if self.hosts.receipts(host) >= 64 {
             return Err(Refusal::ReceiptsFull);
         }
-        self.hosts.take(p, message);
+        self.hosts.take(host, message);
         Ok(message.ssn as u64)
     }
 
@@ -66,17 +59,15 @@ impl<W: Workload> CrashFree<W> {
     pub fn show(&self, p: u8) -> Result<u64, Refusal>
         ensures { result ≡ showing (look W.Workload self.now.hosts) p }
     {
-        self.hosts.check_host(p)?;
-        Ok(self.hosts.show(p))
+        let host = self.hosts.check_host(p)?;
+        Ok(self.hosts.show(host))
     }
 
     /// The output at place i, from 0, of host p, if there is one.
     pub fn output(&self, p: u8, i: u8) -> Option<u64>
         ensures { result ≡ output_at (look W.Workload self.now.hosts) p i }
     {
-        if p >= self.hosts.n() {
-            return None;
-        }
-        self.hosts.output(p, i)
+        let host = self.hosts.n().host(p)?;
+        self.hosts.output(host, i)
     }
 }

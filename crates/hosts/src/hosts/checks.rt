@@ -1,31 +1,44 @@
 ghost use Rattle.std.specs.Prelude.{◌≡◌, [], ◌∷◌};
-ghost use Rattle.network.specs.Checks.{checked};
-ghost use Rattle.network.specs.Network.{host_check, pair_checks};
+ghost use Rattle.network.specs.Checks.{checked, giving};
+ghost use Rattle.network.specs.Network.{count_check, host_check, pair_checks};
 ghost use Rattle.hosts.specs.View.{look};
 
 use super::Hosts;
 use network::refusal::Refusal;
+use workload::host::Host;
+use workload::host_count::HostCount;
+use workload::sender::Sender;
 use workload::{OUTSIDE, Workload};
+
+/// Check 1: there are 2 to 8 hosts.
+pub fn check_count(n: u8) -> Result<HostCount, Refusal>
+    ensures { result ≡ giving n (checked (count_check n ∷ [])) }
+{
+    if n < 2 || n > 8 {
+        return Err(Refusal::HostCount);
+    }
+    Ok(HostCount::new(n))
+}
 
 impl<W: Workload> Hosts<W> {
     /// Check 3: the host is below n.
-    pub fn check_host(&self, p: u8) -> Result<(), Refusal>
-        ensures { result ≡ checked (host_check (look W.Workload self.now) p ∷ []) }
+    pub fn check_host(&self, p: u8) -> Result<Host, Refusal>
+        ensures { result ≡ giving p (checked (host_check (look W.Workload self.now) p ∷ [])) }
     {
-        if p >= self.n() {
-            return Err(Refusal::NoSuchHost);
-        }
-        Ok(())
+        self.n.host(p).ok_or(Refusal::NoSuchHost)
     }
 
     /// Checks 3 and 4: and the sender is the outside world, or another host below n.
-    pub fn check_pair(&self, p: u8, s: u8) -> Result<(), Refusal>
-        ensures { result ≡ checked (pair_checks (look W.Workload self.now) p s) }
+    pub fn check_pair(&self, p: u8, s: u8) -> Result<(Host, Sender), Refusal>
+        ensures { result ≡ giving (p, s) (checked (pair_checks (look W.Workload self.now) p s)) }
     {
-        self.check_host(p)?;
-        if s != OUTSIDE && (s >= self.n() || s == p) {
-            return Err(Refusal::NoSuchSender);
+        let host = self.check_host(p)?;
+        if s == OUTSIDE {
+            return Ok((host, Sender::OUTSIDE));
         }
-        Ok(())
+        match self.n.host(s) {
+            Some(sender) if s != p => Ok((host, Sender::from(sender))),
+            _ => Err(Refusal::NoSuchSender),
+        }
     }
 }

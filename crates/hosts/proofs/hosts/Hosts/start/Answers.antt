@@ -4,5 +4,5 @@ use Rattle.hosts.proofs.hosts.Hosts.start.Goals as goal
 
 pub returns : goal.returns
 returns g c =
-    assembled_is c.args.n _ _ _ _ _ _ _ _ _ _ (ap g.W.Workload.machine c.start.ensures.hosts) c.start.ensures.state c.empty-self.ensures
-    c.empty.ensures c.empty-2.ensures
+    assembled_is c.args.n _ _ _ _ _ _ _ _ _ _ (ap g.W.Workload.machine c.start.ensures.hosts) c.start.ensures.state c.clear_all.ensures
+    c.clear.ensures.posts c.clear.ensures.released
