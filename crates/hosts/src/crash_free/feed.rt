@@ -27,7 +27,7 @@ pub struct Delivery {
 }
 
 /// What can be done to a run over a workload.
-pub trait Fed<W: Workload> {
+pub trait Item<W: Workload> {
     /// The two numbers that the run is given.
     ghost pair: { Self → ℕ × ℕ };
 
@@ -43,7 +43,7 @@ pub trait Fed<W: Workload> {
         ensures answer { self.new ≡ note self.old (feed (look W.Workload run.old.hosts) (pair self.old).0 (pair self.old).1).0 };
 }
 
-impl<W: Workload> Fed<W> for Post {
+impl<W: Workload> Item<W> for Post {
     ghost pair = { post_pair };
 
     ghost note = { post_answer };
@@ -55,7 +55,7 @@ impl<W: Workload> Fed<W> for Post {
     }
 }
 
-impl<W: Workload> Fed<W> for Delivery {
+impl<W: Workload> Item<W> for Delivery {
     ghost pair = { delivery_pair };
 
     ghost note = { delivery_answer };

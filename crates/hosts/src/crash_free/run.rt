@@ -4,13 +4,13 @@ ghost use Rattle.hosts.specs.Feed.{answered, running};
 ghost use Rattle.hosts.specs.View.{look};
 
 use super::CrashFree;
-use super::feed::{Delivery, Fed, Post};
+use super::feed::{Delivery, Item, Post};
 use network::refusal::Refusal;
 use workload::Workload;
 
 impl<W: Workload> CrashFree<W> {
     /// Feeds each item in turn, and notes its answer.
-    fn feed<T: Fed<W>>(&mut self, items: &mut [T])
+    fn feed<T: Item<W>>(&mut self, items: &mut [T])
         ensures network { look W.Workload self.new.hosts ≡ after T.feed (look W.Workload self.old.hosts) (map T.pair items.old) }
         ensures answers { items.new ≡ answered T.feed T.pair T.note (look W.Workload self.old.hosts) items.old }
     {

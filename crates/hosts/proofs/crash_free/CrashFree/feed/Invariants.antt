@@ -4,4 +4,4 @@ use Rattle.hosts.proofs.crash_free.CrashFree.feed.Given as goal
 
 abbrev pub invariant-loop-item : goal.invariant-loop-item
 invariant-loop-item g l =
-    Feeding g.T.Fed.feed g.T.Fed.pair g.T.Fed.note (look g.W.Workload l.initial.self.hosts) l.initial.items (look g.W.Workload l.self.hosts) l.items l.item-index
+    Feeding g.T.Item.feed g.T.Item.pair g.T.Item.note (look g.W.Workload l.initial.self.hosts) l.initial.items (look g.W.Workload l.self.hosts) l.items l.item-index
