@@ -1,6 +1,4 @@
 //! How returning hosts are brought to their targets: the steps of a recovery.
 #![tactic(auto)]
 
-pub mod replay;
-pub mod restart;
-pub mod targets;
+pub mod plan;

@@ -1,3 +1,4 @@
 pub mod Tables
+pub mod Turns
 pub mod Floats
 pub mod Steady

@@ -1,6 +1,6 @@
-ghost use Rattle.std.specs.Prelude.{◌≡◌, [], ◌∷◌};
+ghost use Rattle.std.specs.Prelude.{◌≡◌, cond, [], ◌∷◌, Some, None};
 ghost use Rattle.network.specs.Checks.{checked, giving};
-ghost use Rattle.network.specs.Network.{count_check, host_check, pair_checks};
+ghost use Rattle.network.specs.Network.{count_check, host_check, pair_checks, is_sender};
 ghost use Rattle.hosts.specs.View.{look};
 
 use super::Hosts;
@@ -33,12 +33,22 @@ impl<W: Workload> Hosts<W> {
         ensures { result ≡ giving (p, s) (checked (pair_checks (look W.Workload self.now) p s)) }
     {
         let host = self.check_host(p)?;
+        let sender = self.sender(host, s).ok_or(Refusal::NoSuchSender)?;
+        Ok((host, sender))
+    }
+
+    /// The sender of this number, if it may send to host p: the outside world, or another host below n.
+    pub fn sender(&self, p: Host, s: u8) -> Option<Sender>
+        ensures { result ≡ cond (is_sender (look W.Workload self.now) p s) (Some s) None }
+    {
         if s == OUTSIDE {
-            return Ok((host, Sender::OUTSIDE));
+            return Some(Sender::OUTSIDE);
         }
-        match self.n.host(s) {
-            Some(sender) if s != p => Ok((host, Sender::from(sender))),
-            _ => Err(Refusal::NoSuchSender),
+        let host = self.n.host(s)?;
+        if host == p {
+            None
+        } else {
+            Some(Sender::from(host))
         }
     }
 }
