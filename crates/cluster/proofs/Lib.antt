@@ -1,1 +1,2 @@
 pub mod Citing
+pub mod Counting

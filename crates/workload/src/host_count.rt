@@ -1,4 +1,4 @@
-ghost use Rattle.std.specs.Prelude.{◌≡◌, ℕ, ◌≤◌, cond, Some, None, nat_lt};
+ghost use Rattle.std.specs.Prelude.{◌≡◌, ℕ, ◌≤◌, cond, length, Some, None, nat_lt};
 ghost use Rattle.std.specs.List.{range_with_len};
 
 use crate::host::Host;
@@ -50,7 +50,8 @@ impl HostCount {
 
     /// The hosts, lowest first.
     pub fn hosts(self) -> HostRange
-        ensures { result ≡ range_with_len 0 self }
+        ensures hosts { result ≡ range_with_len 0 self }
+        ensures few { length result ≤ 8 }
     {
         HostRange::below(self)
     }

@@ -1,4 +1,4 @@
-ghost use Rattle.std.specs.Prelude.{◌≡◌, ℕ, ◌-◌, ◌≤◌, List};
+ghost use Rattle.std.specs.Prelude.{◌≡◌, ℕ, ◌-◌, ◌≤◌, List, length};
 ghost use Rattle.std.specs.List.{range_with_len};
 ghost use Rattle.std.specs.Iterator.{YieldsFirst, item_count};
 
@@ -24,7 +24,8 @@ impl Model for HostRange {
 impl HostRange {
     /// The hosts of this many, from host 0 on.
     pub(super) fn below(end: HostCount) -> HostRange
-        ensures { result ≡ range_with_len 0 end }
+        ensures hosts { result ≡ range_with_len 0 end }
+        ensures few { length result ≤ 8 }
     {
         HostRange {
             next: 0,

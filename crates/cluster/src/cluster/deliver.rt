@@ -1,4 +1,4 @@
-ghost use Rattle.std.specs.Prelude.{◌≡◌, ◌+◌, ◌<◌, ◌≤◌, length};
+ghost use Rattle.std.specs.Prelude.{◌≡◌, ◌+◌, ◌<◌, length};
 ghost use Rattle.logger.specs.Clauses.{InRange};
 ghost use Rattle.logger.specs.Meaning.{determinant};
 ghost use Rattle.calls.specs.Calls.{Called, Follows, carried, told};
@@ -10,21 +10,22 @@ use logger::determinant::Determinant;
 use logger::logger::Logger;
 use network::message::Message;
 use network::refusal::Refusal;
-use workload::{OUTSIDE, Workload};
+use workload::Workload;
+use workload::host::Host;
+use workload::sender::Sender;
 
 /// The logger is told that p is about to take a message from s, if s is a host.
-fn carry<L: Logger>(logger: &mut L, s: u8, p: u8)
-    requires { (s ≤ 8) × (p < 8) }
+fn carry<L: Logger>(logger: &mut L, s: Sender, p: Host)
     ensures { Follows L.Logger (carried p s) logger.old logger.new }
 {
-    if s != OUTSIDE {
-        logger.carry(s, p);
+    if let Some(sender) = s.host() {
+        logger.carry(sender, p);
     }
 }
 
 /// The logger is told of a delivery as far as this point.
-fn tell<L: Logger>(logger: &mut L, s: u8, p: u8, determinant: Determinant, point: u8)
-    requires { (s ≤ 8) × ((p < 8) × (InRange determinant)) }
+fn tell<L: Logger>(logger: &mut L, s: Sender, p: Host, determinant: Determinant, point: u8)
+    requires { InRange determinant }
     ensures { Follows L.Logger (told p s determinant point) logger.old logger.new }
 {
     if point >= 1 {
@@ -37,12 +38,12 @@ fn tell<L: Logger>(logger: &mut L, s: u8, p: u8, determinant: Determinant, point
 
 impl<L: Logger, W: Workload> Cluster<L, W> {
     /// The determinant of the receipt that this message makes at p.
-    fn determinant(&self, p: u8, message: Message) -> Determinant
-        requires { (length ((system W.Workload self.now).cluster.network.hosts p).receipts < 64) × (p < 8) }
+    fn determinant(&self, p: Host, message: Message) -> Determinant
+        requires { length ((system W.Workload self.now).cluster.network.hosts p).receipts < 64 }
         ensures { result ≡ determinant p (length ((system W.Workload self.now).cluster.network.hosts p).receipts + 1) message.sender message.ssn }
     {
         Determinant {
-            receiver: p,
+            receiver: p.number(),
             number: self.hosts.receipts(p) + 1,
             sender: message.sender,
             ssn: message.ssn,
@@ -53,12 +54,12 @@ impl<L: Logger, W: Workload> Cluster<L, W> {
     pub fn deliver(&mut self, p: u8, s: u8) -> Result<u64, Refusal>
         ensures { Called L.Logger (system W.Workload self.old) (Deliver p s) result (system W.Workload self.new) }
     {
-        self.hosts.check_pair(p, s)?;
-        let message = self.check_taking(p, s)?;
-        let determinant = self.determinant(p, message);
-        carry(&mut self.logger, s, p);
-        self.logger.note(p, determinant);
-        self.hosts.take(p, message);
+        let (host, sender) = self.hosts.check_pair(p, s)?;
+        let message = self.check_taking(host, sender)?;
+        let determinant = self.determinant(host, message);
+        carry(&mut self.logger, sender, host);
+        self.logger.note(host, determinant);
+        self.hosts.take(host, message);
         Ok(message.ssn as u64)
     }
 
@@ -66,15 +67,15 @@ impl<L: Logger, W: Workload> Cluster<L, W> {
     pub fn cut(&mut self, p: u8, s: u8, point: u8) -> Result<u64, Refusal>
         ensures { Called L.Logger (system W.Workload self.old) (Cut p s point) result (system W.Workload self.new) }
     {
-        self.hosts.check_pair(p, s)?;
+        let (host, sender) = self.hosts.check_pair(p, s)?;
         if point > 3 {
             return Err(Refusal::NoSuchPoint);
         }
-        let message = self.check_taking(p, s)?;
-        let determinant = self.determinant(p, message);
-        tell(&mut self.logger, s, p, determinant, point);
-        self.logger.lose(p);
-        self.take_down(p);
+        let message = self.check_taking(host, sender)?;
+        let determinant = self.determinant(host, message);
+        tell(&mut self.logger, sender, host, determinant, point);
+        self.logger.lose(host);
+        self.take_down(host);
         Ok(0)
     }
 }

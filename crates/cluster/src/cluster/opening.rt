@@ -4,7 +4,7 @@ ghost use Rattle.calls.specs.Cluster.{unopened};
 ghost use Rattle.cluster.specs.View.{system};
 
 use super::Cluster;
-use hosts::hosts::Hosts;
+use hosts::hosts::{Hosts, check_count};
 use logger::host_set::HostSet;
 use logger::logger::Logger;
 use network::refusal::Refusal;
@@ -28,14 +28,12 @@ impl<L: Logger, W: Workload> Cluster<L, W> {
     pub fn open(&mut self, n: u8, f: u8) -> Result<u64, Refusal>
         ensures { Opened L.Logger W.Workload.machine (system W.Workload self.old) n f result (system W.Workload self.new) }
     {
-        if n < 2 || n > 8 {
-            return Err(Refusal::HostCount);
-        }
+        let count = check_count(n)?;
         if f < 1 || f >= n {
             return Err(Refusal::DownBound);
         }
-        self.hosts.start(n);
-        self.logger.start(n, f);
+        self.hosts.start(count);
+        self.logger.start(count, f);
         self.f = f;
         self.whole = true;
         self.down = HostSet::empty();

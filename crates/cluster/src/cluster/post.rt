@@ -13,15 +13,13 @@ impl<L: Logger, W: Workload> Cluster<L, W> {
     pub fn post(&mut self, p: u8, body: u64) -> Result<u64, Refusal>
         ensures { Called L.Logger (system W.Workload self.old) (Post p body) result (system W.Workload self.new) }
     {
-        self.hosts.check_host(p)?;
-        if !self.whole {
-            return Err(Refusal::NotWhole);
-        }
-        let posts = self.hosts.posts(p);
+        let host = self.hosts.check_host(p)?;
+        self.check_whole()?;
+        let posts = self.hosts.posts(host);
         if posts >= 64 {
             return Err(Refusal::PostsFull);
         }
-        self.hosts.add_post(p, body);
+        self.hosts.add_post(host, body);
         Ok(posts as u64 + 1)
     }
 }

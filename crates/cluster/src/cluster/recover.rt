@@ -6,9 +6,7 @@ use super::Cluster;
 use logger::host_set::HostSet;
 use logger::logger::Logger;
 use network::refusal::Refusal;
-use replay::replay::{all_reached, replay};
-use replay::restart::restart;
-use replay::targets::targets;
+use replay::plan::Plan;
 use workload::Workload;
 
 impl<L: Logger, W: Workload> Cluster<L, W> {
@@ -16,17 +14,15 @@ impl<L: Logger, W: Workload> Cluster<L, W> {
     pub fn recover(&mut self) -> Result<u64, Refusal>
         ensures { Called L.Logger (system W.Workload self.old) Recover result (system W.Workload self.new) }
     {
-        if !self.whole {
-            return Err(Refusal::NotWhole);
-        }
+        self.check_whole()?;
         if self.down_count() == 0 {
             return Err(Refusal::NobodyDown);
         }
-        let targets = targets(&self.logger);
-        restart(&mut self.hosts, self.down);
-        let count = replay(&mut self.hosts, &self.logger, self.down, &targets);
-        if !all_reached(&self.hosts, &self.logger, self.down, &targets) {
-            restart(&mut self.hosts, self.down);
+        let plan = Plan::new(&self.logger, self.down);
+        plan.restart(&mut self.hosts);
+        let count = plan.replay(&mut self.hosts);
+        if !plan.all_reached(&self.hosts) {
+            plan.restart(&mut self.hosts);
             self.whole = false;
             return Err(Refusal::TargetMissed);
         }

@@ -13,15 +13,15 @@ impl<L: Logger, W: Workload> Cluster<L, W> {
     pub fn release(&mut self, p: u8) -> Result<u64, Refusal>
         ensures { Called L.Logger (system W.Workload self.old) (Release p) result (system W.Workload self.new) }
     {
-        self.hosts.check_host(p)?;
-        self.check_up(p)?;
-        let released = self.hosts.released(p);
+        let host = self.hosts.check_host(p)?;
+        self.check_up(host)?;
+        let released = self.hosts.released(host);
         let output = self
             .hosts
-            .output(p, released)
+            .output(host, released)
             .ok_or(Refusal::NothingToRelease)?;
-        self.logger.spread(p);
-        self.hosts.release(p, output);
+        self.logger.spread(host);
+        self.hosts.release(host, output);
         Ok(output)
     }
 }

@@ -13,8 +13,8 @@ impl<L: Logger, W: Workload> Cluster<L, W> {
     pub fn show(&self, p: u8) -> Result<u64, Refusal>
         ensures { Called L.Logger (system W.Workload self.now) (Show p) result (system W.Workload self.now) }
     {
-        self.hosts.check_host(p)?;
-        self.check_up(p)?;
-        Ok(self.hosts.show(p))
+        let host = self.hosts.check_host(p)?;
+        self.check_up(host)?;
+        Ok(self.hosts.show(host))
     }
 }
