@@ -114,13 +114,13 @@ fn move_licences(rt: &HostRuntime) -> io::Result<()> {
     if run.start(2).is_err() {
         return Ok(());
     }
-    post(rt, &mut run, 0, Order::Credit(100).body())?;
-    post(rt, &mut run, 0, Order::Transfer(1, 30).body())?;
+    post(rt, &mut run, 0, Order::Credit(100).into())?;
+    post(rt, &mut run, 0, Order::Transfer(1, 30).into())?;
     deliver(rt, &mut run, 0, OUTSIDE)?;
     deliver(rt, &mut run, 1, 0)?;
     deliver(rt, &mut run, 0, OUTSIDE)?;
     deliver(rt, &mut run, 1, 0)?;
-    post(rt, &mut run, 1, Order::Statement.body())?;
+    post(rt, &mut run, 1, Order::Statement.into())?;
     deliver(rt, &mut run, 1, OUTSIDE)?;
     print_balances(rt, &run)
 }

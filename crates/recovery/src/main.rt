@@ -95,14 +95,14 @@ fn play<L: Logger, W: Workload>(
 /// Where the logger had not yet made that delivery safe, its message waits again and is taken after all.
 fn licences() -> [Made; 17] {
     [
-        todo(Call::Post(0, Order::Credit(100).body())),
-        todo(Call::Post(0, Order::Transfer(1, 30).body())),
-        todo(Call::Post(0, Order::Transfer(2, 5).body())),
+        todo(Call::Post(0, Order::Credit(100).into())),
+        todo(Call::Post(0, Order::Transfer(1, 30).into())),
+        todo(Call::Post(0, Order::Transfer(2, 5).into())),
         todo(Call::Deliver(0, OUTSIDE)),
         todo(Call::Deliver(0, OUTSIDE)),
         todo(Call::Deliver(0, OUTSIDE)),
         todo(Call::Deliver(2, 0)),
-        todo(Call::Post(2, Order::Statement.body())),
+        todo(Call::Post(2, Order::Statement.into())),
         todo(Call::Deliver(2, OUTSIDE)),
         todo(Call::Release(2)),
         todo(Call::Cut(1, 0, 2)),

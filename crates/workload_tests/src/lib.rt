@@ -2,6 +2,8 @@
 #![tactic(auto)]
 
 #[cfg(test)]
+mod ignored;
+#[cfg(test)]
 mod ledger;
 #[cfg(test)]
 mod spacing;

@@ -24,6 +24,7 @@ fn carry<L: Logger>(logger: &mut L, s: Sender, p: Host)
 }
 
 /// The logger is told of a delivery as far as this point.
+// The point stays a number: over an enum of the four points the proof of `cut` does not close.
 fn tell<L: Logger>(logger: &mut L, s: Sender, p: Host, determinant: Determinant, point: u8)
     requires { InRange determinant }
     ensures { Follows L.Logger (told p s determinant point) logger.old logger.new }
