@@ -1,9 +1,12 @@
 -- The bits of a set of hosts.
-use Rattle.std.proofs.Common.{◌≡◌, ℕ, zero, suc, ◌/◌, ◌%◌, ◌^◌, ◌<◌, Bool, true, false, ◌&&◌, ◌||◌, eqb, ltb, sym, refl, ap, ◌∙◌, one-add, arith, pow_pos, shr-shr}
+use Rattle.std.proofs.Common.{◌≡◌, ℕ, zero, suc, ◌+◌, ◌/◌, ◌%◌, ◌^◌, ◌<◌, Bool, true, false, cond, ◌&&◌, ◌||◌, eqb, ltb, sym, refl, ap, ◌∙◌, one-add, arith, pow_pos, shr-shr}
 use lib.Bits.{bit_or, or_shr, or_mod}
-use native.Mathlib.Nat.{div-eq_of_lt, zero-div}
-use Rattle.std.proofs.lemmas.Bool.{ne_eqb, ltb-true, and_parts, and_right}
+use lib.Count.{ones}
+use native.Mathlib.Nat.{div-eq_of_lt}
+use Rattle.std.proofs.lemmas.Nat.{mod-pow-add, ones_cat, mod_below}
+use Rattle.std.proofs.lemmas.Bool.{ne_eqb, ltb-true, and_parts}
 use Rattle.logger.specs.declared.host_set.HostSet.{HostSet}
+use Rattle.logger.specs.Meaning.{count}
 use Rattle.logger.specs.HostSets.{members}
 use Rattle.std.proofs.lemmas.Bool.Decides.{nat_tests}
 
@@ -53,5 +56,17 @@ union_bit a b h = rw (or_bit a b h) (and_or (ltb h 8) _ _)
 pub members_high : (s : HostSet) (h : ℕ) → members s h ≡ true → h < 8
 members_high s h e = ltb-true h 8 (and_parts (ltb h 8) (eqb (s.bits / 2 ^ h % 2) 1) e).0
 
-pub no_bit : (h : ℕ) → (ltb h 8 && eqb (0 / 2 ^ h % 2) 1) ≡ false
-no_bit h = rw (zero-div (2 ^ h)) (and_right (ltb h 8) false refl)
+-- the bits below n that are 1
+pub ones_mod : (b n : ℕ) → ones (b % 2 ^ n) ≡ count n (λ h. eqb (b / 2 ^ h % 2) 1)
+unfolding ones
+ones_mod b zero = let e : b % 1 ≡ 0 = omega arith in ap ones e
+ones_mod b (suc n) =
+    ap (λ (k : ℕ). ones (b % 2 ^ k)) (sym (one-add n))
+    ∙ ap ones (mod-pow-add b 1 n)
+    ∙ ones_cat n (b / 2 ^ n % 2) (b % 2 ^ n) (mod_below b (2 ^ n) (pow_pos n))
+    ∙ rw (ones_mod b n) (top (b / 2 ^ n % 2) (count n (λ h. eqb (b / 2 ^ h % 2) 1)) (omega arith))
+  where
+    top : (t k : ℕ) → t < 2 → ones t + k ≡ cond (eqb t 1) (suc k) k
+    top zero k l = omega arith
+    top (suc zero) k l = omega arith
+    top (suc (suc t)) k l = absurd (omega arith)

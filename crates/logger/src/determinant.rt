@@ -2,33 +2,30 @@
 ghost use Rattle.std.specs.Prelude.{◌≡◌};
 ghost use Rattle.logger.specs.Sources.{source};
 
+use network::message::Receipt;
+use network::seq_no::SeqNo;
+use workload::host::Host;
+use workload::sender::Sender;
+
 /// What makes a receipt happen again: `receiver` took, as its receipt `number`, message `ssn` of `sender`.
 ///
-/// A receipt number is a receive sequence number and an ssn a send sequence number; both count from 1.
-/// Sender 8 is the outside world.
+/// A receipt number is a receive sequence number and an ssn a send sequence number.
 #[derive(Clone, Copy, PartialEq, Eq, Debug)]
 pub struct Determinant {
-    pub receiver: u8,
-    pub number: u8,
-    pub sender: u8,
-    pub ssn: u8,
+    pub receiver: Host,
+    pub number: SeqNo,
+    pub sender: Sender,
+    pub ssn: SeqNo,
 }
 
-/// Which message a receipt took: message `ssn` of `sender`.
-#[derive(Clone, Copy)]
-pub struct Source {
-    pub sender: u8,
-    pub ssn: u8,
-}
+/// The message that was taken.
+impl From<Determinant> for Receipt {
+    ghost from_gives = { λ d r. r ≡ source d };
 
-impl Determinant {
-    /// The message that was taken.
-    pub fn source(self) -> Source
-        ensures { result ≡ source self }
-    {
-        Source {
-            sender: self.sender,
-            ssn: self.ssn,
+    fn from(determinant: Determinant) -> Receipt {
+        Receipt {
+            sender: determinant.sender,
+            ssn: determinant.ssn,
         }
     }
 }

@@ -1,9 +1,11 @@
 //! Sets of hosts 0 to 7.
-ghost use Rattle.std.specs.Prelude.{◌≡◌, ◌<◌};
+ghost use Rattle.std.specs.Prelude.{◌≡◌};
 ghost use Rattle.logger.specs.HostSets.{nobody, with_host, either, size, members};
 
+use workload::host::Host;
+
 /// Host h is in the set if bit h is 1.
-#[derive(Clone, Copy)]
+#[derive(Clone, Copy, PartialEq, Eq, Debug)]
 pub struct HostSet {
     bits: u8,
 }
@@ -17,12 +19,11 @@ impl HostSet {
     }
 
     /// The set, with host p in it.
-    pub fn insert(self, p: u8) -> HostSet
-        requires { p < 8 }
+    pub fn insert(self, p: Host) -> HostSet
         ensures { members result ≡ with_host (members self) p }
     {
         HostSet {
-            bits: self.bits | (1 << p),
+            bits: self.bits | (1 << p.number()),
         }
     }
 
@@ -34,24 +35,16 @@ impl HostSet {
         }
     }
 
-    /// Whether host h is in the set.
-    pub fn contains(self, h: u8) -> bool
-        requires { h < 8 }
+    pub fn contains(self, h: Host) -> bool
         ensures { result ≡ members self h }
     {
-        (self.bits >> h) % 2 == 1
+        (self.bits >> h.number()) % 2 == 1
     }
 
     /// How many hosts are in the set.
     pub fn len(self) -> u8
         ensures { result ≡ size (members self) }
     {
-        let mut n = 0;
-        for h in 0..8 {
-            if self.contains(h) {
-                n += 1;
-            }
-        }
-        n
+        self.bits.count_ones() as u8
     }
 }

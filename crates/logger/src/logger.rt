@@ -1,15 +1,18 @@
 //! A logger keeps the determinants of receipts, in the memory of hosts or in a stable store, so that the
 //! receipts of a host that crashed can be replayed.
-ghost use Rattle.std.specs.Prelude.{◌≡◌, ℕ, ◌<◌, ◌≤◌, Some, None, Option};
+ghost use Rattle.std.specs.Prelude.{◌≡◌, ℕ, Some, None, Option};
 ghost use Rattle.logger.specs.declared.determinant.Determinant.{Determinant};
 ghost use Rattle.logger.specs.Meaning.{Meaning, Findable, determinant};
-ghost use Rattle.logger.specs.Clauses.{Sizes, Started, InRange};
+ghost use Rattle.logger.specs.Clauses.{Sizes, Started};
 ghost use Rattle.logger.specs.Operation.{Operation, Allowed, Lawful};
 
 use super::determinant::Determinant;
+use network::seq_no::SeqNo;
+use workload::host::Host;
+use workload::host_count::HostCount;
 
-/// A method asks for numbers in range and no more, and none refuses: where an operation is not allowed, no law
-/// says what it does.
+/// A method asks for numbers in range and no more, which their types say but at a start, and none refuses: where an
+/// operation is not allowed, no law says what it does.
 pub trait Logger {
     /// The hosts, the down set, the volatile sets and the stable store.
     ghost meaning: { Self → Meaning };
@@ -24,28 +27,24 @@ pub trait Logger {
     ghost found: { Self → ℕ → ℕ → Option (ℕ × ℕ) };
 
     /// Forgets everything, and serves n hosts from now on, of which f may be down at once.
-    fn start(&mut self, n: u8, f: u8)
+    fn start(&mut self, n: HostCount, f: u8)
         requires { Sizes n f }
         ensures { acts (Operation.start n f) self.old self.new };
 
     /// Host p is about to receive a message from host s.
-    fn carry(&mut self, s: u8, p: u8)
-        requires { (s < 8) × (p < 8) }
+    fn carry(&mut self, s: Host, p: Host)
         ensures { acts (Operation.carry s p) self.old self.new };
 
     /// Host p has received a message, with determinant d.
-    fn note(&mut self, p: u8, d: Determinant)
-        requires { (p < 8) × (InRange d) }
+    fn note(&mut self, p: Host, d: Determinant)
         ensures { acts (Operation.note p d) self.old self.new };
 
     /// Host p is about to release an output.
-    fn spread(&mut self, p: u8)
-        requires { p < 8 }
+    fn spread(&mut self, p: Host)
         ensures { acts (Operation.spread p) self.old self.new };
 
     /// Host p has crashed.
-    fn lose(&mut self, p: u8)
-        requires { p < 8 }
+    fn lose(&mut self, p: Host)
         ensures { acts (Operation.lose p) self.old self.new };
 
     /// All hosts that were down come back.
@@ -53,8 +52,7 @@ pub trait Logger {
         ensures { acts Operation.rejoin self.old self.new };
 
     /// The sender and the ssn of receipt number r of host q, if its determinant can be found.
-    fn find(&self, q: u8, r: u8) -> Option<(u8, u8)>
-        requires { (q < 8) × ((1 ≤ r) × (r ≤ 64)) }
+    fn find(&self, q: Host, r: SeqNo) -> Option<(u8, u8)>
         ensures { result ≡ found self.now q r };
 
     ghost begins: { (n f : ℕ) (l m : Self) → Sizes n f → acts (Operation.start n f) l m → ready m × Started n f (meaning m) };
