@@ -1,16 +1,12 @@
 //! Family-based logging: a determinant travels with messages until f + 1 hosts are known to hold it.
-ghost use Rattle.std.specs.Prelude.{◌≤◌};
-
-use super::table::Table;
-use logger::host_set::HostSet;
+use super::holdings::Holdings;
+use super::members::Members;
+use super::places::Places;
 
 mod logging;
 
 #[derive(Drop)]
 pub struct FamilyBased {
-    n: u8,
-    f: u8,
-    down: HostSet,
-    table: Table,
-    ghost hosts: { n ≤ 8 },
+    hosts: Members,
+    table: Places<Holdings>,
 }

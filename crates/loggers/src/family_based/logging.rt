@@ -1,5 +1,5 @@
 //! The operations of family-based logging.
-ghost use Rattle.std.specs.Prelude.{◌≡◌, ◌<◌, ◌≤◌};
+ghost use Rattle.std.specs.Prelude.{◌≡◌};
 ghost use Rattle.loggers.specs.FamilyBased.{fresh, after, means, finds};
 ghost use Rattle.loggers.specs.FamilyInvariant.{Ready};
 ghost use Rattle.loggers.specs.FamilyViews.{seen, state};
@@ -8,31 +8,39 @@ ghost use Rattle.loggers.specs.Families.{finds_findable, finds_none};
 
 use super::FamilyBased;
 use crate::entry::Entry;
-use crate::holdings::{Rule, gather};
-use crate::table::Table;
+use crate::holdings::{carry_at, gather, lose_at, note_at, rejoin_at, spread_at};
+use crate::members::Members;
+use crate::places::Places;
 use logger::determinant::Determinant;
 use logger::host_set::HostSet;
 use logger::logger::Logger;
+use network::seq_no::SeqNo;
+use workload::host::Host;
+use workload::host_count::HostCount;
 
 impl FamilyBased {
     /// A logger of no hosts: `start` gives it some.
     pub fn new() -> FamilyBased
         ensures { state result ≡ fresh 0 0 }
     {
+        FamilyBased::fresh(HostCount::new(0), 0)
+    }
+
+    // n hosts that have done nothing
+    fn fresh(n: HostCount, f: u8) -> FamilyBased
+        ensures { state result ≡ fresh n f }
+    {
         FamilyBased {
-            n: 0,
-            f: 0,
-            down: HostSet::empty(),
-            table: Table::empty(),
+            hosts: Members::new(n, f),
+            table: Places::empty(),
         }
     }
 
     /// What host h holds of receipt number r of host q: the message, and the hosts that h knows to hold that.
-    pub fn known_holders(&self, h: u8, q: u8, r: u8) -> Option<Entry>
-        requires { (h < 8) × ((q < 8) × ((1 ≤ r) × (r ≤ 64))) }
+    pub fn known_holders(&self, h: Host, q: Host, r: SeqNo) -> Option<Entry>
         ensures { seen result ≡ (state self.now).holdings q r h }
     {
-        self.table.entry(h, q, r)
+        self.table.get(q, r).and_then(|held| held[h.index()])
     }
 }
 
@@ -53,49 +61,41 @@ impl Logger for FamilyBased {
 
     ghost misses = { λ l q r ready e d i j w. finds_none (state l) q r e d i j w };
 
-    fn start(&mut self, n: u8, f: u8) {
-        *self = FamilyBased {
-            n,
-            f,
-            down: HostSet::empty(),
-            table: Table::empty(),
-        };
+    fn start(&mut self, n: HostCount, f: u8) {
+        *self = FamilyBased::fresh(n, f);
     }
 
-    fn carry(&mut self, s: u8, p: u8) {
-        self.table.change(Rule::Carry { f: self.f, s, p });
+    fn carry(&mut self, s: Host, p: Host) {
+        let hosts = &self.hosts;
+        self.table.change(|held| carry_at(held, hosts, s, p));
     }
 
-    fn note(&mut self, p: u8, d: Determinant) {
-        self.table.note(p, d);
+    fn note(&mut self, p: Host, d: Determinant) {
+        let (q, r) = (d.receiver, d.number);
+        let mut held = self.table.get(q, r).copied().unwrap_or([None; 8]);
+        note_at(&mut held, p, d);
+        self.table.set(q, r, held);
     }
 
-    fn spread(&mut self, p: u8) {
-        self.table.change(Rule::Spread {
-            n: self.n,
-            f: self.f,
-            down: self.down,
-            p,
-        });
+    fn spread(&mut self, p: Host) {
+        let hosts = &self.hosts;
+        self.table.change(|held| spread_at(held, hosts, p));
     }
 
-    fn lose(&mut self, p: u8) {
-        self.down = self.down.insert(p);
-        self.table.change(Rule::Lose { p });
+    fn lose(&mut self, p: Host) {
+        self.hosts.down = self.hosts.down.insert(p);
+        self.table.change(|held| lose_at(held, p));
     }
 
     fn rejoin(&mut self) {
-        self.table.change(Rule::Rejoin {
-            n: self.n,
-            down: self.down,
-        });
-        self.down = HostSet::empty();
+        let hosts = &self.hosts;
+        self.table.change(|held| rejoin_at(held, hosts));
+        self.hosts.down = HostSet::empty();
     }
 
-    fn find(&self, q: u8, r: u8) -> Option<(u8, u8)> {
-        match gather(self.table.get(q, r), self.n, self.down) {
-            Some(e) => Some((e.source.sender, e.source.ssn)),
-            None => None,
-        }
+    fn find(&self, q: Host, r: SeqNo) -> Option<(u8, u8)> {
+        let held = self.table.get(q, r)?;
+        let entry = gather(held, &self.hosts)?;
+        Some((entry.source.sender.number(), entry.source.ssn.number()))
     }
 }

@@ -1,10 +1,14 @@
-use Rattle.std.proofs.Common.{cond, Option, ap, ◌∙◌, add-one}
+use Rattle.std.proofs.Common.{ℕ, cond, Option, refl, add-one, rules}
 use Rattle.logger.specs.HostSets.{members}
-use Rattle.loggers.specs.FamilyBased.{Holding, merge}
-use Rattle.loggers.specs.FamilyViews.{holdings}
+use Rattle.loggers.specs.FamilyBased.{Holding, merge, gather}
+use Rattle.loggers.specs.FamilyViews.{seen, holdings}
+use Rattle.loggers.proofs.Turns.{folded}
 use Rattle.loggers.proofs.holdings.gather.Goals as goal
 
-pub loop-h-preserved : goal.loop-h-preserved
-loop-h-preserved c =
-    let h = c.loop-h.h in
-    rw add-one (c.gather_one-all.ensures ∙ ap (λ (o : Option Holding). cond (members c.args.down h) o (merge o (holdings c.args.held h))) c.loop-h.invariant)
+pub returns : goal.returns
+returns c =
+    let m = c.args.hosts.now in
+    let down = members m.down in
+    let held = holdings c.args.held.now in
+    folded (λ (o : Option Holding) (h : ℕ). cond (down h) o (merge o (held h))) (gather down held) (λ n. rw add-one) _ seen _
+    (λ a h b f' k. search rules) _ m.n _ _ c.hosts.ensures refl c.fold.ensures.ran
