@@ -1,5 +1,5 @@
 //! What the hosts hold of one receipt, and what each operation does to that.
-ghost use Rattle.std.specs.Prelude.{◌≡◌, if◌then◌else◌};
+ghost use Rattle.std.specs.Prelude.{◌≡◌};
 ghost use Rattle.logger.specs.HostSets.{members};
 ghost use Rattle.loggers.specs.FamilyBased.{holders_of, note_at, taken, given, carry_at, handed, hand_out, spread_at, lose_at, merge, gather, with_self, returned, rejoin_at};
 ghost use Rattle.loggers.specs.FamilyViews.{holding, seen, holdings};
@@ -113,16 +113,6 @@ fn merge(a: Option<Entry>, b: Option<Entry>) -> Option<Entry>
     }
 }
 
-fn gather_one(all: Option<Entry>, held: &Holdings, down: HostSet, h: Host) -> Option<Entry>
-    ensures { seen result ≡ (if members down h then seen all else merge (seen all) (holdings held.now h)) }
-{
-    if down.contains(h) {
-        all
-    } else {
-        merge(all, held[h.index()])
-    }
-}
-
 // What the hosts that are up hold, with all the holders that they know.
 pub fn gather(held: &Holdings, hosts: &Members) -> Option<Entry>
     ensures { seen result ≡ gather (members hosts.now.down) (holdings held.now) hosts.now.n }
@@ -130,7 +120,8 @@ pub fn gather(held: &Holdings, hosts: &Members) -> Option<Entry>
     hosts
         .n
         .hosts()
-        .fold(None, |all, h| gather_one(all, held, hosts.down, h))
+        .filter(|h| !hosts.down.contains(*h))
+        .fold(None, |all, h| merge(all, held[h.index()]))
 }
 
 // What h, which held `own`, holds in the end: what was gathered, if h returns.

@@ -4,7 +4,7 @@ use Rattle.logger.specs.HostSets.{members}
 use Rattle.loggers.specs.FamilyBased.{Holding, source_of, gather}
 use Rattle.loggers.specs.FamilyViews.{row}
 use Rattle.loggers.proofs.Entries.{Row, gather_none}
-use Rattle.loggers.proofs.family_based.logging.FamilyBasedLogger.find.Goals as goal
+use Rattle.loggers.proofs.family_based.FamilyBasedLogger.find.Goals as goal
 
 pub returns-in_err-held : goal.returns-in_err-held
 returns-in_err-held c =

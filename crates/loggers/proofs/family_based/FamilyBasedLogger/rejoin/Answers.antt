@@ -2,7 +2,7 @@ use Rattle.std.proofs.Common.{rules}
 use Rattle.logger.specs.HostSets.{members}
 use Rattle.loggers.specs.FamilyBased.{rejoin_at}
 use Rattle.loggers.proofs.Entries.{table_changed, rejoin_none}
-use Rattle.loggers.proofs.family_based.logging.FamilyBasedLogger.rejoin.Goals as goal
+use Rattle.loggers.proofs.family_based.FamilyBasedLogger.rejoin.Goals as goal
 
 pub returns : goal.returns
 returns c =

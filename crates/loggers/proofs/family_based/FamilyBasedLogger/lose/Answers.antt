@@ -1,7 +1,7 @@
 use Rattle.std.proofs.Common.{rules}
 use Rattle.loggers.specs.FamilyBased.{lose_at}
 use Rattle.loggers.proofs.Entries.{table_changed, lose_none}
-use Rattle.loggers.proofs.family_based.logging.FamilyBasedLogger.lose.Goals as goal
+use Rattle.loggers.proofs.family_based.FamilyBasedLogger.lose.Goals as goal
 
 pub returns : goal.returns
 returns c =

@@ -3,7 +3,7 @@ use Rattle.logger.specs.HostSets.{members}
 use Rattle.loggers.specs.FamilyBased.{spread_at, with_holdings}
 use Rattle.loggers.specs.FamilyViews.{state}
 use Rattle.loggers.proofs.Entries.{table_changed}
-use Rattle.loggers.proofs.family_based.logging.FamilyBasedLogger.spread.Goals as goal
+use Rattle.loggers.proofs.family_based.FamilyBasedLogger.spread.Goals as goal
 
 pub returns : goal.returns
 returns c =

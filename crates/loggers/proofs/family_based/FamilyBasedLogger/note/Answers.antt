@@ -2,7 +2,7 @@ use Rattle.std.proofs.Common.{None, Option, replicate, unwrap_or, ap, ◌∙◌}
 use Rattle.loggers.specs.FamilyBased.{note_at, with_holdings}
 use Rattle.loggers.specs.FamilyViews.{holdings, state}
 use Rattle.loggers.proofs.Entries.{Row, row_or_none, table_set}
-use Rattle.loggers.proofs.family_based.logging.FamilyBasedLogger.note.Goals as goal
+use Rattle.loggers.proofs.family_based.FamilyBasedLogger.note.Goals as goal
 
 pub returns : goal.returns
 returns c =

@@ -2,7 +2,7 @@ use Rattle.std.proofs.Common.{refl, ap, rules}
 use Rattle.loggers.specs.FamilyBased.{carry_at, with_holdings}
 use Rattle.loggers.specs.FamilyViews.{state}
 use Rattle.loggers.proofs.Entries.{table_changed}
-use Rattle.loggers.proofs.family_based.logging.FamilyBasedLogger.carry.Goals as goal
+use Rattle.loggers.proofs.family_based.FamilyBasedLogger.carry.Goals as goal
 
 pub returns : goal.returns
 returns c =
