@@ -6,10 +6,14 @@ use logger::determinant::Determinant;
 use logger::logger::Logger;
 use loggers::family_based::FamilyBased;
 use loggers::pessimistic::Pessimistic;
+use network::seq_no::SeqNo;
 use std::test::Fail;
+use workload::host::Host;
+use workload::host_count::HostCount;
+use workload::sender::Sender;
 
 // Receipt `number` of `receiver`, of message `ssn` of `sender`.
-fn receipt(receiver: u8, number: u8, sender: u8, ssn: u8) -> Determinant
+fn receipt(receiver: Host, number: SeqNo, sender: Sender, ssn: SeqNo) -> Determinant
     ensures { result ≡ determinant receiver number sender ssn }
 {
     Determinant {
@@ -22,35 +26,39 @@ fn receipt(receiver: u8, number: u8, sender: u8, ssn: u8) -> Determinant
 
 // Host 0 receives a message from outside, and crashes.
 fn lose_one<L: Logger>(l: &mut L) -> Option<(u8, u8)> {
-    l.start(3, 1);
-    l.note(0, receipt(0, 1, 8, 1));
-    l.lose(0);
-    l.find(0, 1)
+    let (a, first) = (Host::new(0), SeqNo::default());
+    l.start(HostCount::new(3), 1);
+    l.note(a, receipt(a, first, Sender::OUTSIDE, first));
+    l.lose(a);
+    l.find(a, first)
 }
 
 // The same, but host 0 passed a message on before it crashed.
 fn pass_on<L: Logger>(l: &mut L) -> Option<(u8, u8)> {
-    l.start(3, 1);
-    l.note(0, receipt(0, 1, 8, 1));
-    l.carry(0, 1);
-    l.note(1, receipt(1, 1, 0, 1));
-    l.lose(0);
-    l.find(0, 1)
+    let (a, b, first) = (Host::new(0), Host::new(1), SeqNo::default());
+    l.start(HostCount::new(3), 1);
+    l.note(a, receipt(a, first, Sender::OUTSIDE, first));
+    l.carry(a, b);
+    l.note(b, receipt(b, first, Sender::from(a), first));
+    l.lose(a);
+    l.find(a, first)
 }
 
 // Receipt 64 of host 0, spread to all four hosts, outlives three crashes, and after a return three more.
 fn spread_wide<L: Logger>(l: &mut L) -> Option<(u8, u8)> {
-    l.start(4, 3);
-    l.note(0, receipt(0, 64, 8, 7));
-    l.spread(0);
-    l.lose(0);
-    l.lose(1);
-    l.lose(2);
+    let (a, b, c, d) = (Host::new(0), Host::new(1), Host::new(2), Host::new(3));
+    let last = SeqNo::after(63);
+    l.start(HostCount::new(4), 3);
+    l.note(a, receipt(a, last, Sender::OUTSIDE, SeqNo::after(6)));
+    l.spread(a);
+    l.lose(a);
+    l.lose(b);
+    l.lose(c);
     l.rejoin();
-    l.lose(3);
-    l.lose(1);
-    l.lose(0);
-    l.find(0, 64)
+    l.lose(d);
+    l.lose(b);
+    l.lose(a);
+    l.find(a, last)
 }
 
 #[test]
@@ -72,16 +80,18 @@ fn family_based_finds_what_was_passed_on(rt: HostRuntime) {
 // A host that is down stays among the known holders, so the spread adds none.
 #[test]
 fn a_down_host_is_a_known_holder(rt: HostRuntime) -> Result<(), Fail> {
+    let (a, b, c) = (Host::new(0), Host::new(1), Host::new(2));
+    let first = SeqNo::default();
     let mut l = FamilyBased::new();
-    l.start(3, 1);
-    l.note(0, receipt(0, 1, 8, 1));
-    l.carry(0, 1);
-    l.lose(0);
-    l.spread(1);
-    assert!(rt; l.known_holders(2, 0, 1).is_none());
-    let e = l.known_holders(1, 0, 1).ok_or("host 1 holds it")?;
-    assert_eq!(rt; e.source.sender, 8);
+    l.start(HostCount::new(3), 1);
+    l.note(a, receipt(a, first, Sender::OUTSIDE, first));
+    l.carry(a, b);
+    l.lose(a);
+    l.spread(b);
+    assert!(rt; l.known_holders(c, a, first).is_none());
+    let e = l.known_holders(b, a, first).ok_or("host 1 holds it")?;
+    assert_eq!(rt; e.source.sender, Sender::OUTSIDE);
     assert_eq!(rt; e.holders.len(), 2);
-    assert!(rt; e.holders.contains(0));
+    assert!(rt; e.holders.contains(a));
     Ok(())
 }
