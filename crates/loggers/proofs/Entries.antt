@@ -12,7 +12,7 @@ use Rattle.logger.specs.HostSets.{size, members}
 use Rattle.logger.proofs.Bits.{members_high}
 use Rattle.loggers.specs.declared.entry.Entry.{Entry}
 use Rattle.loggers.specs.Places.{at, with_place, Leaves, Changed, EachChanged}
-use Rattle.loggers.specs.FamilyBased.{Holding, Holdings, everywhere, there, put, taken, given, carry_held, carry_at, handed, gather, with_self, returned, lose_at, rejoin_at}
+use Rattle.loggers.specs.FamilyBased.{Holding, Holdings, everywhere, there, put, taken, given, carry_held, carry_at, handed, gather, with_self, lose_at, rejoin_at}
 use Rattle.loggers.specs.FamilyViews.{seen, holdings, row}
 use Rattle.loggers.proofs.Placing.{repeated}
 
@@ -28,12 +28,9 @@ carried_is c f s p e a b h k x y = rw (x, y) (sym (ap (carry_held f s p c) h ∙
 no_member : (s : HostSet) (h : ℕ) → 8 ≤ h → members s h ≡ false
 no_member s h l = let m = members_high s h in grind arith
 
--- hosts from 8 on get nothing and return from nowhere
+-- hosts from 8 on get nothing
 pub handed_past : (e : Holding) (s : HostSet) (h : ℕ) (o : Option Holding) → 8 ≤ h → handed e (members s) h o ≡ o
 handed_past e s h o l = rw (no_member s h l)
-
-pub returned_past : (s : HostSet) (all : Option Holding) (h : ℕ) (o : Option Holding) → 8 ≤ h → returned (members s) all h o ≡ o
-returned_past s all h o l = rw (no_member s h l)
 
 cond_none : (t : Bool) → cond {A = Option Holding} t None None ≡ None
 cond_none true = refl

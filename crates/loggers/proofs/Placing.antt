@@ -69,15 +69,6 @@ module _ {A B : Type 0} (see : A → B) (none : A) (rule : ℕ → B → B) wher
   abbrev pub Swept : List A → List A → ℕ → Type 0
   Swept xs ys i = (j : ℕ) → see (get_or ys j none) ≡ cond (ltb j i) (rule j (see (get_or xs j none))) (see (get_or xs j none))
 
-  pub swept_none : (xs : List A) → Swept xs xs 0
-  swept_none xs j = grind (arith, nat_tests)
-
-  pub swept_more : (xs ys : List A) (i : ℕ) (x : A) → Swept xs ys i → i < length ys → see x ≡ rule i (see (get_or ys i none)) → Swept xs (set ys i x) (i + 1)
-  swept_more xs ys i x done l e j = let here = done i in let there = done j in grind (arith, nat_tests, get_or-set_same, get_or-set_other)
-
-  pub swept_at : (xs ys : List A) (i j : ℕ) → Swept xs ys i → j < i → see (get_or ys j none) ≡ rule j (see (get_or xs j none))
-  swept_at xs ys i j done l = let here = done j in grind (arith, nat_tests)
-
   -- past the end the rule changes nothing
   pub swept_all : (xs ys : List A) (i j : ℕ) → Swept xs ys i → (i ≤ j → rule j (see (get_or xs j none)) ≡ see (get_or xs j none)) → see (get_or ys j none) ≡ rule j (see (get_or xs j none))
   swept_all xs ys i j done past = let here = done j in grind (arith, nat_tests)

@@ -98,6 +98,7 @@ impl Logger for FamilyBased {
         self.hosts.down = HostSet::empty();
     }
 
+    #[tactic(auto, using(crate::proofs::Entries::gather_none))]
     fn find(&self, q: Host, r: SeqNo) -> Option<(u8, u8)> {
         let held = self.table.get(q, r)?;
         let entry = gather(held, &self.hosts)?;

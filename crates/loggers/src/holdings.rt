@@ -58,12 +58,13 @@ fn given(e: &Entry, p: Host) -> Entry
 pub fn carry_at(held: &mut Holdings, hosts: &Members, s: Host, p: Host)
     ensures { holdings held.new ≡ carry_at hosts.now.f s p (holdings held.old) }
 {
-    let Some(e) = held[s.index()] else {
+    let (from, to) = (s.index(), p.index());
+    let Some(e) = held[from] else {
         return;
     };
     if hosts.too_few(e.holders) {
-        held[p.index()] = Some(taken(held[p.index()], &e, p));
-        held[s.index()] = Some(given(&e, p));
+        held[to] = Some(taken(held[to], &e, p));
+        held[from] = Some(given(&e, p));
     }
 }
 
@@ -81,6 +82,7 @@ fn handed(own: Option<Entry>, e: &Entry, all: HostSet, h: Host) -> Option<Entry>
     }
 }
 
+// Each host of `all` that e did not know gets the determinant of e, and p knows them all.
 fn hand_out(held: &mut Holdings, p: Host, e: &Entry, all: HostSet)
     ensures { holdings held.new ≡ hand_out p (holding e.now) (members all) (holdings held.old) }
 {

@@ -21,6 +21,7 @@ fn place(q: Host, r: SeqNo) -> usize
 }
 
 impl<T: Copy> Places<T> {
+    #[tactic(auto, using(crate::proofs::Placing::at_empty))]
     pub fn empty() -> Places<T>
         ensures { (q r : ℕ) → at result.places None q r ≡ None }
     {
@@ -29,6 +30,7 @@ impl<T: Copy> Places<T> {
         }
     }
 
+    /// What stands in the place, if it is not empty.
     pub fn get(&self, q: Host, r: SeqNo) -> Option<&T>
         ensures { option_copied result ≡ at self.now.places None q r }
     {
@@ -41,11 +43,12 @@ impl<T: Copy> Places<T> {
         self.places[place(q, r)] = Some(x);
     }
 
-    /// Changes by a rule whatever has a place.
+    /// Changes by a rule what stands in each place that is not empty.
     pub fn change<F: Fn(&mut T)>(&mut self, rule: F)
         requires { F.IsAlwaysCallable rule }
         ensures { EachChanged F.Fn rule self.old.places self.new.places }
     {
+        // After a `flatten` a proof would know nothing of what the loop wrote.
         for place in self.places.iter_mut() {
             if let Some(x) = place {
                 rule(x);

@@ -8,9 +8,9 @@ pub returns-then-too_few : goal.returns-then-too_few
 returns-then-too_few c =
     let xs = c.args.held.now in
     let e = holding c.in-Some.e in
-    let from = sym (holdings_read xs c.index.result c.args.s _ c.index.ensures.value (search rules)) ∙ ap seen c.in-Some.is in
-    let to = holdings_read xs c.index-then-too_few.result c.args.p c.index-held-index.result c.index-then-too_few.ensures.value (search rules) in
-    holdings_set _ _ c.args.s _ c.index-then-too_few-3.ensures.value (search rules)
-    ∙ ap (λ (t : Holdings). put t c.args.s (Some (holding c.given.result))) (holdings_set xs _ c.args.p _ c.index-then-too_few-2.ensures.value (search rules))
-    ∙ carried_is (holdings xs) c.args.hosts.now.f c.args.s c.args.p e _ _ from (sym c.too_few.ensures ∙ c.if-too_few.true)
-    (c.taken.ensures ∙ ap (λ (o : Option Holding). taken o e c.args.p) to) c.given.ensures
+    let given = sym (holdings_read xs c.index-from.result c.args.s _ c.index-from.ensures.value (search rules)) ∙ ap seen c.in-Some.is in
+    let own = holdings_read xs c.index-to.result c.args.p _ c.index-to.ensures.value (search rules) in
+    holdings_set _ _ c.args.s _ c.index-from.ensures.value (search rules)
+    ∙ ap (λ (t : Holdings). put t c.args.s (Some (holding c.given.result))) (holdings_set xs _ c.args.p _ c.index-to.ensures.value (search rules))
+    ∙ carried_is (holdings xs) c.args.hosts.now.f c.args.s c.args.p e _ _ given (sym c.too_few.ensures ∙ c.if-too_few.true)
+    (c.taken.ensures ∙ ap (λ (o : Option Holding). taken o e c.args.p) own) c.given.ensures
