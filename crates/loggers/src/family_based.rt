@@ -28,15 +28,8 @@ impl FamilyBased {
     pub fn new() -> FamilyBased
         ensures { state result ≡ fresh 0 0 }
     {
-        FamilyBased::fresh(HostCount::new(0), 0)
-    }
-
-    // n hosts that have done nothing
-    fn fresh(n: HostCount, f: u8) -> FamilyBased
-        ensures { state result ≡ fresh n f }
-    {
         FamilyBased {
-            hosts: Members::new(n, f),
+            hosts: Members::new(HostCount::new(0), 0),
             table: Places::empty(),
         }
     }
@@ -67,7 +60,8 @@ impl Logger for FamilyBased {
     ghost misses = { λ l q r ready e d i j w. finds_none (state l) q r e d i j w };
 
     fn start(&mut self, n: HostCount, f: u8) {
-        *self = FamilyBased::fresh(n, f);
+        self.hosts = Members::new(n, f);
+        self.table = Places::empty();
     }
 
     fn carry(&mut self, s: Host, p: Host) {

@@ -27,15 +27,8 @@ impl Pessimistic {
     pub fn new() -> Pessimistic
         ensures { state result ≡ fresh 0 0 }
     {
-        Pessimistic::fresh(HostCount::new(0), 0)
-    }
-
-    // n hosts that have done nothing
-    fn fresh(n: HostCount, f: u8) -> Pessimistic
-        ensures { state result ≡ fresh n f }
-    {
         Pessimistic {
-            hosts: Members::new(n, f),
+            hosts: Members::new(HostCount::new(0), 0),
             store: Places::empty(),
         }
     }
@@ -59,7 +52,8 @@ impl Logger for Pessimistic {
     ghost misses = { Prim.search rules };
 
     fn start(&mut self, n: HostCount, f: u8) {
-        *self = Pessimistic::fresh(n, f);
+        self.hosts = Members::new(n, f);
+        self.store = Places::empty();
     }
 
     fn carry(&mut self, _s: Host, _p: Host) {}
