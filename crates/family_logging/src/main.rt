@@ -2,44 +2,51 @@
 //! may be down. After each step: which determinants each host holds, and who it knows to hold them.
 #![tactic(auto)]
 
-ghost use Rattle.std.specs.Prelude.{◌<◌, ◌≤◌};
+ghost use Rattle.std.specs.Prelude.{◌≡◌};
 
 use logger::determinant::Determinant;
 use logger::host_set::HostSet;
 use logger::logger::Logger;
+use loggers::entry::Entry;
 use loggers::family_based::FamilyBased;
+use network::seq_no::SeqNo;
 use std::io;
+use workload::host::Host;
+use workload::host_count::HostCount;
+use workload::sender::Sender;
 
-const HOSTS: u8 = 3;
-
-/// The outside world, as a sender.
-const OUTSIDE: u8 = 8;
+fn hosts() -> HostCount
+    ensures { result ≡ 3 }
+{
+    HostCount::new(3)
+}
 
 fn print_set(rt: &HostRuntime, set: HostSet) -> io::Result<()> {
-    for h in 0..HOSTS {
+    for h in hosts().hosts() {
         if set.contains(h) {
-            print!(rt; " {h}")?;
+            let host = h.number();
+            print!(rt; " {host}")?;
         }
     }
     println!(rt; "")
 }
 
 /// What host h holds of the first receipt of host q.
-fn print_held(rt: &HostRuntime, log: &FamilyBased, h: u8, q: u8) -> io::Result<()>
-    requires { (h < 8) × (q < 8) }
-{
-    if let Some(entry) = log.known_holders(h, q, 1) {
-        let sender = entry.source.sender;
-        let ssn = entry.source.ssn;
-        print!(rt; "  host {h} holds ({q}, 1, {sender}, {ssn}), known to be held by")?;
-        print_set(rt, entry.holders)?;
+fn print_held(rt: &HostRuntime, log: &FamilyBased, h: Host, q: Host) -> io::Result<()> {
+    if let Some(Entry { source, holders }) = log.known_holders(h, q, SeqNo::new(1)) {
+        let holder = h.number();
+        let receiver = q.number();
+        let sender = source.sender;
+        let ssn = source.ssn;
+        print!(rt; "  host {holder} holds ({receiver}, 1, {sender}, {ssn}), known to be held by")?;
+        print_set(rt, holders)?;
     }
     Ok(())
 }
 
 fn print_all(rt: &HostRuntime, log: &FamilyBased) -> io::Result<()> {
-    for h in 0..HOSTS {
-        for q in 0..HOSTS {
+    for h in hosts().hosts() {
+        for q in hosts().hosts() {
             print_held(rt, log, h, q)?;
         }
     }
@@ -47,35 +54,33 @@ fn print_all(rt: &HostRuntime, log: &FamilyBased) -> io::Result<()> {
 }
 
 /// Host p notes its first receipt: message 1 from s.
-fn note_first(log: &mut FamilyBased, p: u8, s: u8)
-    requires { (p < 8) × (s ≤ 8) }
-{
+fn note_first(log: &mut FamilyBased, p: Host, s: Sender) {
     let determinant = Determinant {
-        receiver: p,
+        receiver: p.number(),
         number: 1,
-        sender: s,
+        sender: s.number(),
         ssn: 1,
     };
     log.note(p, determinant);
 }
 
 /// Host p takes the message from host s, and with it what too few hosts are known to hold.
-fn pass_on(rt: &HostRuntime, log: &mut FamilyBased, s: u8, p: u8) -> io::Result<()>
-    requires { (p < 8) × (s < 8) }
-{
+fn pass_on(rt: &HostRuntime, log: &mut FamilyBased, s: Host, p: Host) -> io::Result<()> {
     log.carry(s, p);
-    note_first(log, p, s);
-    println!(rt; "Host {p} takes the message from host {s}.")?;
+    note_first(log, p, Sender::from(s));
+    let (from, to) = (s.number(), p.number());
+    println!(rt; "Host {to} takes the message from host {from}.")?;
     print_all(rt, log)
 }
 
 fn print_findable(rt: &HostRuntime, log: &FamilyBased) -> io::Result<()> {
-    for q in 0..HOSTS {
-        match log.find(q, 1) {
+    for q in hosts().hosts() {
+        let receiver = q.number();
+        match log.find(q, SeqNo::new(1)) {
             Some((sender, ssn)) => println!(rt;
-                "  receipt 1 of host {q} is found: message {ssn} from {sender}"
+                "  receipt 1 of host {receiver} is found: message {ssn} from {sender}"
             )?,
-            None => println!(rt; "  receipt 1 of host {q} is not found")?,
+            None => println!(rt; "  receipt 1 of host {receiver} is not found")?,
         }
     }
     Ok(())
@@ -85,14 +90,15 @@ fn main(rt: HostRuntime) -> io::Result<()> {
     println!(rt;
         "Determinants are (receiver, receipt number, sender, ssn); sender 8 is the outside world."
     )?;
+    let (a, b, c) = (Host::new(0), Host::new(1), Host::new(2));
     let mut log = FamilyBased::new();
-    log.start(HOSTS, 1);
-    note_first(&mut log, 0, OUTSIDE);
+    log.start(hosts(), 1);
+    note_first(&mut log, a, Sender::OUTSIDE);
     println!(rt; "Host 0 takes a post.")?;
     print_all(&rt, &log)?;
-    pass_on(&rt, &mut log, 0, 1)?;
-    pass_on(&rt, &mut log, 1, 2)?;
-    log.lose(1);
+    pass_on(&rt, &mut log, a, b)?;
+    pass_on(&rt, &mut log, b, c)?;
+    log.lose(b);
     println!(rt; "Host 1 crashes. What can still be found:")?;
     print_findable(&rt, &log)?;
     log.rejoin();

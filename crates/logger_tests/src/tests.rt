@@ -6,7 +6,10 @@ use logger::determinant::Determinant;
 use logger::logger::Logger;
 use loggers::family_based::FamilyBased;
 use loggers::pessimistic::Pessimistic;
+use network::seq_no::SeqNo;
 use std::test::Fail;
+use workload::host::Host;
+use workload::host_count::HostCount;
 
 // Receipt `number` of `receiver`, of message `ssn` of `sender`.
 fn receipt(receiver: u8, number: u8, sender: u8, ssn: u8) -> Determinant
@@ -22,35 +25,35 @@ fn receipt(receiver: u8, number: u8, sender: u8, ssn: u8) -> Determinant
 
 // Host 0 receives a message from outside, and crashes.
 fn lose_one<L: Logger>(l: &mut L) -> Option<(u8, u8)> {
-    l.start(3, 1);
-    l.note(0, receipt(0, 1, 8, 1));
-    l.lose(0);
-    l.find(0, 1)
+    l.start(HostCount::new(3), 1);
+    l.note(Host::new(0), receipt(0, 1, 8, 1));
+    l.lose(Host::new(0));
+    l.find(Host::new(0), SeqNo::new(1))
 }
 
 // The same, but host 0 passed a message on before it crashed.
 fn pass_on<L: Logger>(l: &mut L) -> Option<(u8, u8)> {
-    l.start(3, 1);
-    l.note(0, receipt(0, 1, 8, 1));
-    l.carry(0, 1);
-    l.note(1, receipt(1, 1, 0, 1));
-    l.lose(0);
-    l.find(0, 1)
+    l.start(HostCount::new(3), 1);
+    l.note(Host::new(0), receipt(0, 1, 8, 1));
+    l.carry(Host::new(0), Host::new(1));
+    l.note(Host::new(1), receipt(1, 1, 0, 1));
+    l.lose(Host::new(0));
+    l.find(Host::new(0), SeqNo::new(1))
 }
 
 // Receipt 64 of host 0, spread to all four hosts, outlives three crashes, and after a return three more.
 fn spread_wide<L: Logger>(l: &mut L) -> Option<(u8, u8)> {
-    l.start(4, 3);
-    l.note(0, receipt(0, 64, 8, 7));
-    l.spread(0);
-    l.lose(0);
-    l.lose(1);
-    l.lose(2);
+    l.start(HostCount::new(4), 3);
+    l.note(Host::new(0), receipt(0, 64, 8, 7));
+    l.spread(Host::new(0));
+    l.lose(Host::new(0));
+    l.lose(Host::new(1));
+    l.lose(Host::new(2));
     l.rejoin();
-    l.lose(3);
-    l.lose(1);
-    l.lose(0);
-    l.find(0, 64)
+    l.lose(Host::new(3));
+    l.lose(Host::new(1));
+    l.lose(Host::new(0));
+    l.find(Host::new(0), SeqNo::new(64))
 }
 
 #[test]
@@ -73,15 +76,15 @@ fn family_based_finds_what_was_passed_on(rt: HostRuntime) {
 #[test]
 fn a_down_host_is_a_known_holder(rt: HostRuntime) -> Result<(), Fail> {
     let mut l = FamilyBased::new();
-    l.start(3, 1);
-    l.note(0, receipt(0, 1, 8, 1));
-    l.carry(0, 1);
-    l.lose(0);
-    l.spread(1);
-    assert!(rt; l.known_holders(2, 0, 1).is_none());
-    let e = l.known_holders(1, 0, 1).ok_or("host 1 holds it")?;
+    l.start(HostCount::new(3), 1);
+    l.note(Host::new(0), receipt(0, 1, 8, 1));
+    l.carry(Host::new(0), Host::new(1));
+    l.lose(Host::new(0));
+    l.spread(Host::new(1));
+    assert!(rt; l.known_holders(Host::new(2), Host::new(0), SeqNo::new(1)).is_none());
+    let e = l.known_holders(Host::new(1), Host::new(0), SeqNo::new(1)).ok_or("host 1 holds it")?;
     assert_eq!(rt; e.source.sender, 8);
     assert_eq!(rt; e.holders.len(), 2);
-    assert!(rt; e.holders.contains(0));
+    assert!(rt; e.holders.contains(Host::new(0)));
     Ok(())
 }

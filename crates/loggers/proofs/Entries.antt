@@ -1,81 +1,82 @@
 -- What writes to the program's table do to what it stands for.
-use Rattle.std.proofs.Common.{◌≡◌, ℕ, zero, suc, ◌<◌, ◌≤◌, Bool, true, false, cond, ◌&&◌, eqb, leb, List, [], length, get_or, set, replicate, Some, None, Option, sym, refl, ap, ◌∙◌, arith}
+use Rattle.std.proofs.Common.{◌≡◌, ℕ, zero, suc, ◌<◌, ◌≤◌, Bool, true, false, cond, ◌&&◌, eqb, leb, List, length, get_or, replicate, set, Some, None, Option, sym, refl, ap, ◌∙◌, unwrap_or, arith}
 use mathlib.Core.Path.{fun_ext}
-use Rattle.std.proofs.lemmas.List.{get_or-set_same, get_or-set_other}
-use Rattle.std.proofs.lemmas.Bool.{cond-true, le-leb, eqb-true}
+use denote.Param.Members.{Shared}
+use Rattle.std.specs.Borrow.{MutBor}
+use Rattle.std.proofs.lemmas.List.{get_or-set_same, get_or-set_other, get_or_default}
+use Rattle.std.proofs.lemmas.Bool.{cond-true, eqb-true}
 use Rattle.std.proofs.lemmas.Bool.Decides.{nat_tests}
 use Rattle.logger.specs.declared.determinant.Determinant.{Determinant}
-use Rattle.loggers.specs.declared.entry.Entry.{Entry}
-use Rattle.loggers.specs.declared.holdings.Rule.{Rule}
-use Rattle.loggers.specs.declared.holdings.Rule.TheVariants.{Carry, Spread, Lose, Rejoin}
 use Rattle.logger.specs.declared.host_set.HostSet.{HostSet}
-use Rattle.loggers.specs.declared.table.Table.{Table}
-use Rattle.loggers.specs.Places.{place, has_place, at}
 use Rattle.logger.specs.HostSets.{size, members}
-use Rattle.loggers.specs.FamilyBased.{Holding, Holdings, everywhere, there, put, taken, given, carry_held, carry_at, handed, gather, with_self, returned}
-use Rattle.loggers.specs.FamilyViews.{seen, holdings, table, ruled}
 use Rattle.logger.proofs.Bits.{members_high}
-use Rattle.loggers.proofs.Placing.{place_low, at_set, repeated, at_repeated, Swept, swept_at}
+use Rattle.loggers.specs.declared.entry.Entry.{Entry}
+use Rattle.loggers.specs.Places.{at, with_place, Leaves, Changed, EachChanged}
+use Rattle.loggers.specs.FamilyBased.{Holding, Holdings, everywhere, there, put, taken, given, carry_held, carry_at, handed, gather, with_self, lose_at, rejoin_at}
+use Rattle.loggers.specs.FamilyViews.{seen, holdings, row}
+use Rattle.loggers.proofs.Placing.{repeated}
 
-pub holdings_set : (xs : List (Option Entry)) (p : ℕ) (o : Option Entry) → p < length xs → holdings (set xs p o) ≡ put (holdings xs) p (seen o)
-holdings_set xs p o l = fun_ext (λ h. grind (arith, nat_tests, get_or-set_same, get_or-set_other))
+pub holdings_set : (xs : List (Option Entry)) (i p : ℕ) (o : Option Entry) → i ≡ p → i < length xs → holdings (set xs i o) ≡ put (holdings xs) p (seen o)
+holdings_set xs i p o is l = rw is (fun_ext (λ h. grind (arith, nat_tests, get_or-set_same, get_or-set_other)))
 
-pub carried_is : (c : Holdings) (f s p : ℕ) (e a b : Holding) → c s ≡ Some e → size e.holders ≤ f → a ≡ taken (c p) e p → b ≡ given e p → put (put c p (Some a)) s (Some b) ≡ carry_at f s p c
-carried_is c f s p e a b h k x y = rw (x, y) (sym (ap (carry_held f s p c) h ∙ cond-true (leb (size e.holders) f) _ c (le-leb _ _ k)))
+pub holdings_read : (xs : List (Option Entry)) (i p : ℕ) (d : Option Entry) → i ≡ p → i < length xs → seen (get_or xs i d) ≡ holdings xs p
+holdings_read xs i p d is l = rw (get_or_default xs i d None l, is)
+
+pub carried_is : (c : Holdings) (f s p : ℕ) (e a b : Holding) → c s ≡ Some e → leb (size e.holders) f ≡ true → a ≡ taken (c p) e p → b ≡ given e p → put (put c p (Some a)) s (Some b) ≡ carry_at f s p c
+carried_is c f s p e a b h k x y = rw (x, y) (sym (ap (carry_held f s p c) h ∙ cond-true _ _ c k))
 
 no_member : (s : HostSet) (h : ℕ) → 8 ≤ h → members s h ≡ false
 no_member s h l = let m = members_high s h in grind arith
 
--- hosts from 8 on get nothing and return from nowhere
+-- hosts from 8 on get nothing
 pub handed_past : (e : Holding) (s : HostSet) (h : ℕ) (o : Option Holding) → 8 ≤ h → handed e (members s) h o ≡ o
 handed_past e s h o l = rw (no_member s h l)
-
-pub returned_past : (s : HostSet) (all : Option Holding) (h : ℕ) (o : Option Holding) → 8 ≤ h → returned (members s) all h o ≡ o
-returned_past s all h o l = rw (no_member s h l)
 
 cond_none : (t : Bool) → cond {A = Option Holding} t None None ≡ None
 cond_none true = refl
 cond_none false = refl
 
-gather_none : (down : ℕ → Bool) (n : ℕ) → gather down (holdings []) n ≡ None
+pub gather_none : (down : ℕ → Bool) (n : ℕ) → gather down (row None) n ≡ None
 gather_none down zero = refl
 gather_none down (suc n) = rw (gather_none down n) (cond_none (down n))
 
--- a rule makes nothing of nothing
-pub ruled_none : (rule : Rule) → ruled rule (holdings []) ≡ holdings []
-ruled_none (Carry f s p) = refl
-ruled_none (Spread n f down p) = refl
-ruled_none (Lose p) = fun_ext (λ h. cond_none (eqb h p))
-ruled_none (Rejoin n down) = fun_ext (λ h. ap (λ (o : Option Holding). cond (members down h) (with_self o h) None) (gather_none (members down) n) ∙ cond_none (members down h))
-
-abbrev Row : Type 0
+abbrev pub Row : Type 0
 Row = List (Option Entry)
 
-abbrev tabled : List Row → Table
-tabled xs = record { places = xs }
+-- a host loses nothing where nobody holds anything, and nothing comes back
+pub lose_none : (p : ℕ) → lose_at p (row None) ≡ row None
+lose_none p = fun_ext (λ h. cond_none (eqb h p))
 
-pub table_empty : (q r h : ℕ) → table (tabled (replicate 512 (replicate 8 None))) q r h ≡ None
-table_empty q r h = ap (λ (c : Holdings). c h) (at_repeated holdings (replicate 8 None) [] (fun_ext (repeated seen None None refl 8)) q r)
+pub rejoin_none : (n : ℕ) (down : ℕ → Bool) → rejoin_at n down (row None) ≡ row None
+rejoin_none n down = fun_ext (λ h. ap (λ (o : Option Holding). cond (down h) (with_self o h) None) (gather_none down n) ∙ cond_none (down h))
 
--- every place was changed
-pub table_swept : (rule : Rule) (xs ys : List Row) (i : ℕ) → Swept holdings [] (λ _. ruled rule) xs ys i → 512 ≤ i → table (tabled ys) ≡ everywhere (ruled rule) (table (tabled xs))
-table_swept rule xs ys i done l = fun_ext (λ q. fun_ext (λ r. go q r (has_place q r) refl))
+-- a rule was followed wherever somebody holds something, and makes nothing of nothing
+pub table_changed :
+    {F : Type 0} (g : Shared F (MutBor Row × Unit {0}) (Unit {0} × (MutBor Row × Unit {0}))) (f : F) (rule : Holdings → Holdings) (xs ys : List (Option Row))
+    → rule (row None) ≡ row None
+    → ((x y : Row) → Leaves g f x y → holdings y ≡ rule (holdings x))
+    → EachChanged g f xs ys
+    → (λ q r. row (at ys None q r)) ≡ everywhere rule (λ q r. row (at xs None q r))
+table_changed g f rule xs ys nothing follows all = fun_ext (λ q. fun_ext (λ r. go (at xs None q r) (at ys None q r) (all q r)))
   where
-    go : (q r : ℕ) (t : Bool) → has_place q r ≡ t → holdings (cond t (get_or ys (place q r) []) []) ≡ ruled rule (holdings (cond t (get_or xs (place q r) []) []))
-    go q r true e = swept_at holdings [] (λ _. ruled rule) xs ys i (place q r) done (omega (arith, place_low q r e))
-    go q r false e = sym (ruled_none rule)
+    go : (o w : Option Row) → Changed g f o w → row w ≡ rule (row o)
+    go None w e = ap row e ∙ sym nothing
+    go (Some x) w e = ap row e.1 ∙ follows x e.0 e.2
+
+-- what a host may write to where no host holds anything yet
+pub row_or_none : (o : Option Row) → holdings (unwrap_or o (replicate 8 None)) ≡ row o
+row_or_none None = fun_ext (λ h. ap seen (repeated None 8 h))
+row_or_none (Some xs) = refl
 
 -- the place of d was changed
 pub table_set :
-    (g : Holdings → Holdings) (d : Determinant) (xs : List Row) (row : Row) (i : ℕ)
-    → i ≡ place d.receiver d.number
-    → i < length xs
-    → has_place d.receiver d.number ≡ true
-    → holdings row ≡ g (holdings (get_or xs i []))
-    → table (tabled (set xs i row)) ≡ there g d (table (tabled xs))
-table_set g d xs row i is fits has e = fun_ext (λ q. fun_ext (λ r. ap holdings (at_set xs [] row d.receiver d.number i is fits has q r) ∙ go q r (eqb q d.receiver) (eqb r d.number) refl refl))
+    (g : Holdings → Holdings) (d : Determinant) (xs ys : List (Option Row)) (x : Row)
+    → at ys None ≡ with_place (at xs None) d.receiver d.number x
+    → holdings x ≡ g (row (at xs None d.receiver d.number))
+    → (λ q r. row (at ys None q r)) ≡ there g d (λ q r. row (at xs None q r))
+table_set g d xs ys x is e = ap (λ (t : ℕ → ℕ → Option Row). λ q r. row (t q r)) is ∙ fun_ext (λ q. fun_ext (λ r. go q r (eqb q d.receiver) (eqb r d.number) refl refl))
   where
-    go : (q r : ℕ) (s t : Bool) → eqb q d.receiver ≡ s → eqb r d.number ≡ t → holdings (cond (s && t) row (at xs [] q r)) ≡ cond (s && t) (g (table (tabled xs) q r)) (table (tabled xs) q r)
-    go q r true true x y = rw (eqb-true q _ x, eqb-true r _ y, has, ← is) e
-    go q r true false x y = refl
-    go q r false t x y = refl
+    go : (q r : ℕ) (s t : Bool) → eqb q d.receiver ≡ s → eqb r d.number ≡ t → row (cond (s && t) (Some x) (at xs None q r)) ≡ cond (s && t) (g (row (at xs None q r))) (row (at xs None q r))
+    go q r true true i j = rw (eqb-true q _ i, eqb-true r _ j) e
+    go q r true false i j = refl
+    go q r false t i j = refl

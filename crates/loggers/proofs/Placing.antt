@@ -1,48 +1,73 @@
--- Writes to a table of receipts.
-use Rattle.std.proofs.Common.{◌≡◌, ℕ, zero, suc, ◌+◌, ◌<◌, ◌≤◌, Bool, true, false, cond, ◌&&◌, eqb, ltb, List, length, get_or, set, replicate, refl, arith}
-use Rattle.std.proofs.lemmas.List.{get_or-set_same, get_or-set_other}
+-- Tables of receipts, and loops over lists.
+use Rattle.std.proofs.Common.{◌≡◌, ℕ, zero, suc, ◌+◌, ◌<◌, ◌≤◌, Bool, true, false, cond, ltb, List, length, get_or, set, replicate, Some, None, Option, ◌≢◌, ⊎_elim, refl, ◌∙◌, arith}
+use mathlib.Core.Path.{fun_ext}
+use denote.Param.Members.{Shared}
+use Rattle.std.specs.Borrow.{MutBor}
+use Rattle.std.proofs.lemmas.List.{get_or-set_same, get_or-set_other, get_or_default}
 use Rattle.std.proofs.lemmas.Bool.Decides.{nat_tests}
-use Rattle.loggers.specs.Places.{place, has_place, at}
+use Rattle.std.proofs.lemmas.Bool.{cases_eq}
+use Rattle.loggers.specs.Places.{place, has_place, at, with_place, Leaves, Changed, EachChanged}
 
-pub has_it : (q r : ℕ) → q < 8 → 1 ≤ r → r ≤ 64 → has_place q r ≡ true
-has_it q r h k l = grind (arith, nat_tests)
-
-pub place_low : (q r : ℕ) → has_place q r ≡ true → place q r < 512
+place_low : (q r : ℕ) → has_place q r ≡ true → place q r < 512
 place_low q r h = let a : q < 8 = grind (arith, nat_tests) in let b : r < 65 = grind (arith, nat_tests) in omega arith
 
--- one place i is written, that of receipt number r of host q
-module _ {A : Type 0} (xs : List A) (none v : A) (q r i : ℕ) (is : i ≡ place q r) (fits : i < length xs) (has : has_place q r ≡ true) where
-  pub at_set : (q' r' : ℕ) → at (set xs i v) none q' r' ≡ cond (eqb q' q && eqb r' r) v (at xs none q' r')
-  at_set q' r' = grind (arith, nat_tests, get_or-set_same, get_or-set_other)
+-- receipt number r of host q, of the 512, has been given x
+module _ {A : Type 0} (xs : List (Option A)) (x : A) (q r i : ℕ) (is : i ≡ place q r) (fits : i < length xs) (has : has_place q r ≡ true) where
+  at_set : (k j : ℕ) → at (set xs i (Some x)) None k j ≡ with_place (at xs None) q r x k j
+  at_set k j = grind (arith, nat_tests, get_or-set_same, get_or-set_other)
 
--- one element repeated; `see` is what an element stands for
-module _ {A B : Type 0} (see : A → B) (x none : A) (same : see x ≡ see none) where
-  pub repeated : (n i : ℕ) → see (get_or (replicate n x) i none) ≡ see none
-  repeated zero i = refl
-  repeated (suc n) zero = same
-  repeated (suc n) (suc i) = repeated n i
+  pub set_place : at (set xs i (Some x)) None ≡ with_place (at xs None) q r x
+  set_place = fun_ext (λ k. fun_ext (at_set k))
 
-  pub at_repeated : (q r : ℕ) → see (at (replicate 512 x) none q r) ≡ see none
-  at_repeated q r = go (has_place q r)
+pub repeated : {A : Type 0} (x : A) (n i : ℕ) → get_or (replicate n x) i x ≡ x
+repeated x zero i = refl
+repeated x (suc n) zero = refl
+repeated x (suc n) (suc i) = repeated x n i
+
+pub at_empty : {A : Type 0} (q r : ℕ) → at {A = Option A} (replicate 512 None) None q r ≡ None
+at_empty {A} q r = go (has_place q r)
+  where
+    go : (t : Bool) → cond {A = Option A} t (get_or {A = Option A} (replicate 512 None) (place q r) None) None ≡ None
+    go true = repeated None 512 (place q r)
+    go false = refl
+
+-- A loop that changes what has a place.
+module _ {F A : Type 0} (g : Shared F (MutBor A × Unit {0}) (Unit {0} × (MutBor A × Unit {0}))) (f : F) where
+  -- the places below i of xs have been changed, and make ys
+  pub record Passed (xs ys : List (Option A)) (i : ℕ) : Type 0 where
+    pub done : (k : ℕ) → k < i → Changed g f (get_or xs k None) (get_or ys k None)
+    pub rest : (k : ℕ) → i ≤ k → get_or ys k None ≡ get_or xs k None
+
+  -- one place more
+  passed_more : (xs ys : List (Option A)) (i : ℕ) (o : Option A) → Passed xs ys i → i < length ys → Changed g f (get_or ys i None) o → Passed xs (set ys i o) (i + 1)
+  passed_more xs ys i o p l e = record { done = λ k h. ⊎_elim (here k) (there k h) (cases_eq k i); rest = λ k h. get_or-set_other ys i k o None (omega arith) ∙ p.rest k (omega arith) }
     where
-      go : (t : Bool) → see (cond t (get_or (replicate 512 x) (place q r) none) none) ≡ see none
-      go true = repeated 512 (place q r)
-      go false = refl
+      here : (k : ℕ) → k ≡ i → Changed g f (get_or xs k None) (get_or (set ys i o) k None)
+      here k is = rw (is, ← p.rest i (omega arith), get_or-set_same ys i o None l) e
+
+      there : (k : ℕ) → k < i + 1 → k ≢ i → Changed g f (get_or xs k None) (get_or (set ys i o) k None)
+      there k h ne = rw (get_or-set_other ys i k o None ne) (p.done k (omega arith))
+
+  -- which had x, and has y now
+  pub passed_full : (xs ys : List (Option A)) (i : ℕ) (d : Option A) (x y : A) → Passed xs ys i → i < length ys → get_or ys i d ≡ Some x → Leaves g f x y → Passed xs (set ys i (Some y)) (i + 1)
+  passed_full xs ys i d x y p l is e = passed_more xs ys i (Some y) p l (rw (get_or_default ys i None d l, is) (y, refl, e))
+
+  -- which is empty
+  pub passed_empty : (xs ys : List (Option A)) (i : ℕ) (d : Option A) → Passed xs ys i → i < length ys → get_or ys i d ≡ None → Passed xs (set ys i (get_or ys i d)) (i + 1)
+  passed_empty xs ys i d p l is = rw is (passed_more xs ys i None p l (rw (get_or_default ys i None d l, is) refl))
+
+  pub passed_all : (xs ys : List (Option A)) (i : ℕ) → Passed xs ys i → 512 ≤ i → EachChanged g f xs ys
+  passed_all xs ys i p l q r = go (has_place q r) refl
+    where
+      go : (t : Bool) → has_place q r ≡ t → Changed g f (cond t (get_or xs (place q r) None) None) (cond t (get_or ys (place q r) None) None)
+      go true e = let low = place_low q r e in p.done (place q r) (omega arith)
+      go false e = refl
 
 -- A loop that changes each element by a rule.
 module _ {A B : Type 0} (see : A → B) (none : A) (rule : ℕ → B → B) where
   -- the places below i of xs have been changed, and make ys
   abbrev pub Swept : List A → List A → ℕ → Type 0
   Swept xs ys i = (j : ℕ) → see (get_or ys j none) ≡ cond (ltb j i) (rule j (see (get_or xs j none))) (see (get_or xs j none))
-
-  pub swept_none : (xs : List A) → Swept xs xs 0
-  swept_none xs j = grind (arith, nat_tests)
-
-  pub swept_more : (xs ys : List A) (i : ℕ) (x : A) → Swept xs ys i → i < length ys → see x ≡ rule i (see (get_or ys i none)) → Swept xs (set ys i x) (i + 1)
-  swept_more xs ys i x done l e j = let here = done i in let there = done j in grind (arith, nat_tests, get_or-set_same, get_or-set_other)
-
-  pub swept_at : (xs ys : List A) (i j : ℕ) → Swept xs ys i → j < i → see (get_or ys j none) ≡ rule j (see (get_or xs j none))
-  swept_at xs ys i j done l = let here = done j in grind (arith, nat_tests)
 
   -- past the end the rule changes nothing
   pub swept_all : (xs ys : List A) (i j : ℕ) → Swept xs ys i → (i ≤ j → rule j (see (get_or xs j none)) ≡ see (get_or xs j none)) → see (get_or ys j none) ≡ rule j (see (get_or xs j none))

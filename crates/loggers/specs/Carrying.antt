@@ -4,7 +4,7 @@ use Rattle.std.proofs.Math.Path.{refl}
 use Rattle.std.proofs.Common.{sym, ap, ◌∙◌, inl, ⊎_elim, arith}
 use Rattle.std.proofs.Math.Logic.{inr}
 use Rattle.std.proofs.lemmas.Bool.{cases_eq, eqb-true, or_cases, leb-false}
-use Rattle.logger.specs.declared.determinant.Source.{Source}
+use Rattle.network.specs.declared.message.Receipt.{Receipt}
 use Rattle.logger.specs.HostSets.{size}
 use Rattle.loggers.specs.FamilyBased.{Holding, Holdings, source_of, holders_of, put, taken, given, carry_held, carry_at}
 use Rattle.loggers.specs.FamilyInvariant.{Holds, Vouched, InOrder}
@@ -12,7 +12,7 @@ use Rattle.loggers.specs.Ordered.{Step, same_step, put_same, put_other, known_of
 
 pub record Carried (n f : ℕ) (down : ℕ → Bool) (s p : ℕ) (c c' : Holdings) : Type 0 where
   pub step : Step n down c c' (λ h y. (h ≡ p) × (source_of (c s) ≡ Some y))
-  pub carried : (y : Source) → source_of (c s) ≡ Some y → (source_of (c' p) ≡ Some y) ⊎ (f < vouchers n down c' y)
+  pub carried : (y : Receipt) → source_of (c s) ≡ Some y → (source_of (c' p) ≡ Some y) ⊎ (f < vouchers n down c' y)
 
 module _ (n f : ℕ) (down : ℕ → Bool) (c : Holdings) (s p : ℕ) (order : InOrder n down c) (to_host : p < n) (to_up : down p ≡ false) (apart : s ≢ p) where
   -- s, which knows at most f holders, holds e
@@ -71,7 +71,7 @@ module _ (n f : ℕ) (down : ℕ → Bool) (c : Holdings) (s p : ℕ) (order : I
         ⊎_elim (λ w. inr (by_s k (same_holders (given e p) g (sym w.1 ∙ i) k y)))
         (⊎_elim (λ w. inr (by_p k (same_holders (taken (c p) e p) g (sym w.1 ∙ i) k y))) (λ j. inl (sym j ∙ i))) (at h)
 
-    gains : (h : ℕ) (y : Source) → source_of (moved h) ≡ Some y → (source_of (c h) ≡ Some y) ⊎ ((h ≡ p) × (source_of (c s) ≡ Some y))
+    gains : (h : ℕ) (y : Receipt) → source_of (moved h) ≡ Some y → (source_of (c h) ≡ Some y) ⊎ ((h ≡ p) × (source_of (c s) ≡ Some y))
     gains h y t =
         let f = ap source_of from.has in
         ⊎_elim (λ w. inl (ap (λ (k : ℕ). source_of (c k)) w.0 ∙ f ∙ sym (ap source_of w.1) ∙ t))
@@ -91,7 +91,7 @@ module _ (n f : ℕ) (down : ℕ → Bool) (c : Holdings) (s p : ℕ) (order : I
   unfolding moved
   carry_carries small l u = go (c s) refl
     where
-      stays : ((y : Source) → source_of (c s) ≡ Some y → f < vouchers n down c y) → Carried n f down s p c c
+      stays : ((y : Receipt) → source_of (c s) ≡ Some y → f < vouchers n down c y) → Carried n f down s p c c
       stays many = record { step = same_step n down c _ order; carried = λ y t. inr (many y t) }
 
       deep : (e : Holding) → c s ≡ Some e → (t : Bool) → nat_le (size e.holders) f ≡ t → Carried n f down s p c (cond t (put (put c p (Some (taken (c p) e p))) s (Some (given e p))) c)

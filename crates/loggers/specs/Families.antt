@@ -4,7 +4,7 @@ use Rattle.std.proofs.Common.{sym, ap, subst, ◌∙◌, inl, inr, ⊎_elim, ari
 use Rattle.std.proofs.lemmas.Bool.Decides.{nat_tests}
 use Rattle.std.proofs.lemmas.Bool.{eqb-true, eq-eqb, or_right}
 use Rattle.logger.specs.declared.determinant.Determinant.{Determinant}
-use Rattle.logger.specs.declared.determinant.Source.{Source}
+use Rattle.network.specs.declared.message.Receipt.{Receipt}
 use Rattle.logger.specs.Meaning.{Findable, determinant}
 use Rattle.logger.specs.Clauses.{Sizes, Started, Grows}
 use Rattle.logger.specs.Operation.{Operation, Allowed, Lawful, start, carry, note, spread, lose, rejoin}
@@ -26,7 +26,7 @@ held_is : (a : State) (h : ℕ) (d : Determinant) → source_of (a.holdings d.re
 held_is a h d s = is_source_of (source_of (a.holdings d.receiver d.number h)) (source d) s
 
 -- An operation that only adds, at every receipt.
-module _ (a : State) (t : ℕ → ℕ → Holdings) (Gets : ℕ → ℕ → ℕ → Source → Type 0) (steps : (q r : ℕ) → Step a.n a.down (a.holdings q r) (t q r) (Gets q r)) where
+module _ (a : State) (t : ℕ → ℕ → Holdings) (Gets : ℕ → ℕ → ℕ → Receipt → Type 0) (steps : (q r : ℕ) → Step a.n a.down (a.holdings q r) (t q r) (Gets q r)) where
   grows : Grows (means a) (means (with_holdings a t))
   grows = record {
     same_n = refl;
@@ -117,7 +117,7 @@ rejoined a ready =
     )
 
 module _ (p : ℕ) (d : Determinant) (a : State) (ready : Ready a) (may : Allowed (note p d) (means a)) where
-  abbrev Gets : ℕ → ℕ → ℕ → Source → Type 0
+  abbrev Gets : ℕ → ℕ → ℕ → Receipt → Type 0
   Gets q r h y = (q ≡ d.receiver) × (r ≡ d.number) × (h ≡ p) × (y ≡ source d)
 
   -- whoever is up and holds something of that receipt holds d

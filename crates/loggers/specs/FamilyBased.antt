@@ -3,7 +3,7 @@
 -- Each rule is stated for one receipt, and then made at all of them.
 use Rattle.std.specs.Prelude.{ℕ, zero, suc, Bool, false, cond, not, ◌&&◌, Some, None, Option, ◌==◌, nat_le}
 use Rattle.logger.specs.declared.determinant.Determinant.{Determinant}
-use Rattle.logger.specs.declared.determinant.Source.{Source}
+use Rattle.network.specs.declared.message.Receipt.{Receipt}
 use Rattle.logger.specs.Meaning.{Meaning}
 use Rattle.logger.specs.Operation.{Operation, start, carry, note, spread, lose, rejoin}
 use Rattle.logger.specs.Sources.{source, is_source, pair}
@@ -11,14 +11,14 @@ use Rattle.logger.specs.HostSets.{nobody, with_host, either, size}
 
 -- what a host holds of a receipt: which message was taken, and the hosts that it knows to hold that
 pub record Holding : Type 0 where
-  pub source : Source
+  pub source : Receipt
   pub holders : ℕ → Bool
 
 -- the same determinant, with other known holders
 abbrev pub knowing : Holding → (ℕ → Bool) → Holding
 knowing e K = record { source = e.source; holders = K }
 
-abbrev pub source_of : Option Holding → Option Source
+abbrev pub source_of : Option Holding → Option Receipt
 source_of None = None
 source_of (Some e) = Some e.source
 

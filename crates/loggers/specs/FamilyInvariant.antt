@@ -1,6 +1,6 @@
 -- What a start and allowed operations keep true of family-based logging.
 use Rattle.std.specs.Prelude.{◌≡◌, ℕ, ◌<◌, Bool, true, false, ◌⊎◌, Some, None}
-use Rattle.logger.specs.declared.determinant.Source.{Source}
+use Rattle.network.specs.declared.message.Receipt.{Receipt}
 use Rattle.logger.specs.Clauses.{Sizes}
 use Rattle.loggers.specs.FamilyBased.{Holding, Holdings, State, source_of}
 
@@ -11,7 +11,7 @@ pub record Holds (n : ℕ) (down : ℕ → Bool) (c : Holdings) (h : ℕ) (e : H
   pub has : c h ≡ Some e
 
 -- k is down, or holds the determinant with source x
-abbrev pub Vouched : (ℕ → Bool) → Holdings → Source → ℕ → Type 0
+abbrev pub Vouched : (ℕ → Bool) → Holdings → Receipt → ℕ → Type 0
 Vouched down c x k = (down k ≡ true) ⊎ (source_of (c k) ≡ Some x)
 
 -- What the hosts hold of one receipt.

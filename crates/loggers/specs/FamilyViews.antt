@@ -1,13 +1,11 @@
 -- What the values of the family-based program stand for.
-use Rattle.std.specs.Prelude.{ℕ, ◌<◌, ◌≤◌, List, [], Some, None, Option, slice_index_or}
+use Rattle.std.specs.Prelude.{ℕ, List, Some, None, Option, slice_index_or}
 use Rattle.loggers.specs.declared.family_based.FamilyBased.{FamilyBased}
 use Rattle.loggers.specs.declared.entry.Entry.{Entry}
-use Rattle.loggers.specs.declared.holdings.Rule.{Rule}
-use Rattle.loggers.specs.declared.holdings.Rule.TheVariants.{Carry, Spread, Lose, Rejoin}
-use Rattle.loggers.specs.declared.table.Table.{Table}
+use Rattle.loggers.specs.declared.places.Places.{Places}
 use Rattle.logger.specs.HostSets.{members}
 use Rattle.loggers.specs.Places.{at}
-use Rattle.loggers.specs.FamilyBased.{Holding, Holdings, State, carry_at, spread_at, lose_at, rejoin_at}
+use Rattle.loggers.specs.FamilyBased.{Holding, Holdings, State}
 
 abbrev pub holding : Entry → Holding
 holding e = record { source = e.source; holders = members e.holders }
@@ -20,22 +18,13 @@ seen (Some e) = Some (holding e)
 abbrev pub holdings : List (Option Entry) → Holdings
 holdings xs h = seen (slice_index_or xs h None)
 
-abbrev pub table : Table → ℕ → ℕ → Holdings
-table t q r = holdings (at t.places [] q r)
+-- where the place is empty, no host holds anything
+abbrev pub row : Option (List (Option Entry)) → Holdings
+row None = λ h. None
+row (Some xs) = holdings xs
+
+abbrev pub table : Places (List (Option Entry)) → ℕ → ℕ → Holdings
+table t q r = row (at t.places None q r)
 
 abbrev pub state : FamilyBased → State
-state l = record { n = l.n; f = l.f; down = members l.down; holdings = table l.table }
-
--- what a rule makes of one receipt
-abbrev pub ruled : Rule → Holdings → Holdings
-ruled (Carry f s p) = carry_at f s p
-ruled (Spread n f down p) = spread_at n f (members down) p
-ruled (Lose p) = lose_at p
-ruled (Rejoin n down) = rejoin_at n (members down)
-
--- its hosts are some of the eight
-abbrev pub Bounded : Rule → Type 0
-Bounded (Carry f s p) = (s < 8) × (p < 8)
-Bounded (Spread n f down p) = (n ≤ 8) × (p < 8)
-Bounded (Lose p) = p < 8
-Bounded (Rejoin n down) = n ≤ 8
+state l = record { n = l.hosts.n; f = l.hosts.f; down = members l.hosts.down; holdings = table l.table }

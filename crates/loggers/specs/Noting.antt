@@ -2,17 +2,17 @@
 use Rattle.std.specs.Prelude.{◌≡◌, ℕ, ◌<◌, Bool, true, false, ◌⊎◌, Some, None}
 use Rattle.std.proofs.Common.{sym, ap, ◌∙◌, inl, inr, ⊎_elim, arith}
 use Rattle.std.proofs.lemmas.Bool.{cases_eq, eqb-true}
-use Rattle.logger.specs.declared.determinant.Source.{Source}
+use Rattle.network.specs.declared.message.Receipt.{Receipt}
 use Rattle.logger.specs.HostSets.{nobody, with_host}
 use Rattle.loggers.specs.FamilyBased.{Holding, Holdings, source_of, put}
 use Rattle.loggers.specs.FamilyInvariant.{Holds, Vouched, InOrder}
 use Rattle.loggers.specs.Ordered.{Step, put_same, put_other, same_holders, keeps, in_order}
 
-abbrev pub noted : ℕ → Source → Holdings → Holdings
+abbrev pub noted : ℕ → Receipt → Holdings → Holdings
 noted p x c = put c p (Some (record { source = x; holders = with_host nobody p }))
 
 -- p is up, and whoever is up and holds something holds x
-module _ (n : ℕ) (down : ℕ → Bool) (c : Holdings) (p : ℕ) (x : Source) (order : InOrder n down c) (host : p < n) (up : down p ≡ false) (agree : (h : ℕ) (e : Holding) → Holds n down c h e → e.source ≡ x) where
+module _ (n : ℕ) (down : ℕ → Bool) (c : Holdings) (p : ℕ) (x : Receipt) (order : InOrder n down c) (host : p < n) (up : down p ≡ false) (agree : (h : ℕ) (e : Holding) → Holds n down c h e → e.source ≡ x) where
   at : (h : ℕ) → ((h ≡ p) × (noted p x c h ≡ Some (record { source = x; holders = with_host nobody p }))) ⊎ (noted p x c h ≡ c h)
   at h = ⊎_elim (λ i. inl (i, ap (noted p x c) i ∙ put_same c p _)) (λ ne. inr (put_other c p _ h ne)) (cases_eq h p)
 

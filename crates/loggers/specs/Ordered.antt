@@ -3,7 +3,7 @@ use Rattle.std.specs.Prelude.{◌≡◌, ℕ, ◌<◌, ◌≤◌, Bool, true, �
 use Rattle.std.proofs.Common.{sym, ap, ◌∙◌, inl, inr, ⊎_elim, arith}
 use Rattle.std.proofs.lemmas.Bool.Decides.{nat_tests}
 use Rattle.std.proofs.lemmas.Bool.{cases_Bool}
-use Rattle.logger.specs.declared.determinant.Source.{Source}
+use Rattle.network.specs.declared.message.Receipt.{Receipt}
 use Rattle.logger.specs.Meaning.{count}
 use Rattle.logger.specs.Sources.{is_source}
 use Rattle.logger.specs.HostSets.{with_host, size}
@@ -12,7 +12,7 @@ use Rattle.loggers.specs.FamilyInvariant.{Holds, Vouched, InOrder}
 use Rattle.logger.proofs.Sources.{is_source_of}
 use Rattle.logger.proofs.Counting.{mono_or, count_eight}
 
-pub source_some : (o : Option Holding) (x : Source) → source_of o ≡ Some x → (e : Holding) × (o ≡ Some e) × (e.source ≡ x)
+pub source_some : (o : Option Holding) (x : Receipt) → source_of o ≡ Some x → (e : Holding) × (o ≡ Some e) × (e.source ≡ x)
 source_some None x h = grind arith
 source_some (Some e) x h = (e, refl, cc)
 
@@ -29,12 +29,12 @@ pub same_holders : (e g : Holding) → Some e ≡ Some g → (k : ℕ) → g.hol
 same_holders e g i k h = let j : e ≡ g = cc in rw j h
 
 -- What an operation that only adds does to one receipt: Gets h y says that h may get the determinant with source y.
-pub record Step (n : ℕ) (down : ℕ → Bool) (c c' : Holdings) (Gets : ℕ → Source → Type 0) : Type 0 where
+pub record Step (n : ℕ) (down : ℕ → Bool) (c c' : Holdings) (Gets : ℕ → Receipt → Type 0) : Type 0 where
   pub order : InOrder n down c'
-  pub keeps : (h : ℕ) (y : Source) → source_of (c h) ≡ Some y → source_of (c' h) ≡ Some y
-  pub gains : (h : ℕ) (y : Source) → source_of (c' h) ≡ Some y → (source_of (c h) ≡ Some y) ⊎ Gets h y
+  pub keeps : (h : ℕ) (y : Receipt) → source_of (c h) ≡ Some y → source_of (c' h) ≡ Some y
+  pub gains : (h : ℕ) (y : Receipt) → source_of (c' h) ≡ Some y → (source_of (c h) ≡ Some y) ⊎ Gets h y
 
-pub same_step : (n : ℕ) (down : ℕ → Bool) (c : Holdings) (Gets : ℕ → Source → Type 0) → InOrder n down c → Step n down c c Gets
+pub same_step : (n : ℕ) (down : ℕ → Bool) (c : Holdings) (Gets : ℕ → Receipt → Type 0) → InOrder n down c → Step n down c c Gets
 same_step n down c Gets order = record { order = order; keeps = λ h y s. s; gains = λ h y s. inl s }
 
 pub put_same : (c : Holdings) (p : ℕ) (o : Option Holding) → put c p o p ≡ o
@@ -44,7 +44,7 @@ pub put_other : (c : Holdings) (p : ℕ) (o : Option Holding) (h : ℕ) → h �
 put_other c p o h ne = grind (arith, nat_tests)
 
 -- Some hosts got the determinant with source x, which every host that was up and held one held.
-module _ (n : ℕ) (down down' : ℕ → Bool) (c c' : Holdings) (x : Source) (order : InOrder n down c)
+module _ (n : ℕ) (down down' : ℕ → Bool) (c c' : Holdings) (x : Receipt) (order : InOrder n down c)
     (agree : (h : ℕ) (e : Holding) → Holds n down c h e → e.source ≡ x)
     (change : (h : ℕ) → (c' h ≡ c h) ⊎ (((h < n) ⊎ (c h ≡ None)) × (source_of (c' h) ≡ Some x)))
     (fell : (k : ℕ) → k < n → down k ≡ true → Vouched down' c' x k)
@@ -52,7 +52,7 @@ module _ (n : ℕ) (down down' : ℕ → Bool) (c c' : Holdings) (x : Source) (o
   held : (h : ℕ) (e : Holding) → h < n → c h ≡ Some e → Holds n down c h e
   held h e l i = let z = order.none h in grind (arith, cases_Bool (down h))
 
-  pub keeps : (h : ℕ) (y : Source) → source_of (c h) ≡ Some y → source_of (c' h) ≡ Some y
+  pub keeps : (h : ℕ) (y : Receipt) → source_of (c h) ≡ Some y → source_of (c' h) ≡ Some y
   keeps h y s = ⊎_elim (λ i. ap source_of i ∙ s) (λ g. ⊎_elim (λ l. g.1 ∙ ap Some (held_x l)) (λ i. grind arith) g.0) (change h)
     where
       held_x : h < n → x ≡ y
@@ -84,10 +84,10 @@ lose_in_order n down c p order = record {
 }
 
 -- how many hosts vouch
-abbrev pub vouchers : ℕ → (ℕ → Bool) → Holdings → Source → ℕ
+abbrev pub vouchers : ℕ → (ℕ → Bool) → Holdings → Receipt → ℕ
 vouchers n down c x = count n (λ k. down k || is_source (source_of (c k)) x)
 
-pub vouched : (down : ℕ → Bool) (c : Holdings) (x : Source) (k : ℕ) → Vouched down c x k → (down k || is_source (source_of (c k)) x) ≡ true
+pub vouched : (down : ℕ → Bool) (c : Holdings) (x : Receipt) (k : ℕ) → Vouched down c x k → (down k || is_source (source_of (c k)) x) ≡ true
 vouched down c x k (inl d) = grind arith
 vouched down c x k (inr s) = let t = is_source_of (source_of (c k)) x s in grind (arith, cases_Bool (down k))
 

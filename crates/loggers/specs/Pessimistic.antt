@@ -1,8 +1,8 @@
 -- Pessimistic logging: each determinant goes to the stable store as it is noted, and the volatile sets stay empty.
 use Rattle.std.specs.Prelude.{ℕ, Bool, false, cond, ◌&&◌, Some, None, Option, ◌==◌}
 use Rattle.logger.specs.declared.determinant.Determinant.{Determinant}
-use Rattle.logger.specs.declared.determinant.Source.{Source}
-use Rattle.loggers.specs.declared.store.Store.{Store}
+use Rattle.network.specs.declared.message.Receipt.{Receipt}
+use Rattle.loggers.specs.declared.places.Places.{Places}
 use Rattle.loggers.specs.declared.pessimistic.Pessimistic.{Pessimistic}
 use Rattle.logger.specs.Meaning.{Meaning}
 use Rattle.logger.specs.Operation.{Operation, start, carry, note, spread, lose, rejoin}
@@ -12,7 +12,7 @@ use Rattle.loggers.specs.Places.{at}
 
 -- the stable store: of a receiver and a receipt number, which message was taken
 abbrev pub Stored : Type 0
-Stored = ℕ → ℕ → Option Source
+Stored = ℕ → ℕ → Option Receipt
 
 -- the store with d in it
 abbrev pub with_determinant : Stored → Determinant → Stored
@@ -41,8 +41,8 @@ abbrev pub means : State → Meaning
 means a = record { n = a.n; f = a.f; down = a.down; held = λ h d. false; stored = λ d. is_source (a.store d.receiver d.number) (source d) }
 
 -- WHAT THE PROGRAM'S VALUES STAND FOR
-abbrev pub stored : Store → Stored
+abbrev pub stored : Places Receipt → Stored
 stored s = at s.places None
 
 abbrev pub state : Pessimistic → State
-state l = record { n = l.n; f = l.f; down = members l.down; store = stored l.store }
+state l = record { n = l.hosts.n; f = l.hosts.f; down = members l.hosts.down; store = stored l.store }

@@ -2,13 +2,13 @@
 use Rattle.std.specs.Prelude.{◌≡◌, ℕ, zero, suc, ◌<◌, Bool, true, false, cond, ◌⊎◌, Some, None, Option, ◌==◌, refl}
 use Rattle.std.proofs.Common.{sym, ap, ◌∙◌, inl, inr, ⊎_elim, arith}
 use Rattle.std.proofs.lemmas.Bool.{cases_eq, cases_Bool, eqb-true, or_cases, cond-true, cond-false}
-use Rattle.logger.specs.declared.determinant.Source.{Source}
+use Rattle.network.specs.declared.message.Receipt.{Receipt}
 use Rattle.logger.specs.HostSets.{nobody, with_host}
 use Rattle.loggers.specs.FamilyBased.{Holding, Holdings, knowing, source_of, merge, gather, with_self, returned, rejoin_at}
 use Rattle.loggers.specs.FamilyInvariant.{Holds, Vouched, InOrder}
 use Rattle.loggers.specs.Ordered.{source_some, same_holders, known_grows, in_order}
 
-merge_source : (o b : Option Holding) (x : Source) → source_of (merge o b) ≡ Some x → (source_of o ≡ Some x) ⊎ (source_of b ≡ Some x)
+merge_source : (o b : Option Holding) (x : Receipt) → source_of (merge o b) ≡ Some x → (source_of o ≡ Some x) ⊎ (source_of b ≡ Some x)
 merge_source None b x h = inr h
 merge_source (Some e) None x h = inl h
 merge_source (Some e) (Some g) x h = inl h
@@ -44,7 +44,7 @@ module _ (down : ℕ → Bool) (c : Holdings) where
       go false d = here d
 
   -- what is gathered comes from a host that is up, and so does each holder that is known
-  pub gather_source : (m : ℕ) (x : Source) → source_of (gather down c m) ≡ Some x → SomeHolds (λ e. e.source ≡ x) m
+  pub gather_source : (m : ℕ) (x : Receipt) → source_of (gather down c m) ≡ Some x → SomeHolds (λ e. e.source ≡ x) m
   gather_source zero x s = grind arith
   gather_source (suc m) x s =
       let ih = λ (t : source_of (gather down c m) ≡ Some x). later (λ e. e.source ≡ x) m (gather_source m x t) in
@@ -70,7 +70,7 @@ pub record Returns (n : ℕ) (down : ℕ → Bool) (c c' : Holdings) : Type 0 wh
   pub order : InOrder n nobody c'
   pub stays : (h : ℕ) → down h ≡ false → c' h ≡ c h
   pub taught : (q h : ℕ) (e : Holding) → q < n → down q ≡ true → Holds n down c h e → source_of (c' q) ≡ Some e.source
-  pub only_taught : (q : ℕ) (y : Source) → q < n → down q ≡ true → source_of (c' q) ≡ Some y → (h : ℕ) × (e : Holding) × Holds n down c h e × (e.source ≡ y)
+  pub only_taught : (q : ℕ) (y : Receipt) → q < n → down q ≡ true → source_of (c' q) ≡ Some y → (h : ℕ) × (e : Holding) × Holds n down c h e × (e.source ≡ y)
 
 module _ (n : ℕ) (down : ℕ → Bool) (c : Holdings) (order : InOrder n down c) where
   -- what is left of a receipt where o was gathered

@@ -5,7 +5,7 @@ use Rattle.std.proofs.Common.{sym, subst, ◌∙◌, arith}
 use Rattle.std.proofs.Math.Logic.{inl, inr, ⊎_elim}
 use Rattle.std.proofs.lemmas.Bool.{cases_eq, cases_Bool, eqb-true, eq-eqb, or_left, or_right, or_cases, leb-false, cond-false}
 use Rattle.std.proofs.lemmas.Bool.Decides.{nat_tests}
-use Rattle.logger.specs.declared.determinant.Source.{Source}
+use Rattle.network.specs.declared.message.Receipt.{Receipt}
 use Rattle.logger.specs.Sources.{is_source}
 use Rattle.logger.specs.HostSets.{with_host, either, size}
 use Rattle.loggers.specs.FamilyBased.{Holding, Holdings, knowing, source_of, holders_of, join_one, join, joined, handed, hand_out, spread_held, spread_at}
@@ -64,7 +64,7 @@ module _ (f : ℕ) (down : ℕ → Bool) where
 
 pub record Spreads (n f : ℕ) (down : ℕ → Bool) (p : ℕ) (c c' : Holdings) : Type 0 where
   pub step : Step n down c c' (λ h y. (h < n) × (down h ≡ false) × (source_of (c p) ≡ Some y))
-  pub covers : (y : Source) → source_of (c p) ≡ Some y → f < vouchers n down c' y
+  pub covers : (y : Receipt) → source_of (c p) ≡ Some y → f < vouchers n down c' y
 
 module _ (n f : ℕ) (down : ℕ → Bool) (c : Holdings) (p : ℕ) (order : InOrder n down c) where
   -- p holds e, and knows K in the end
@@ -125,7 +125,7 @@ module _ (n f : ℕ) (down : ℕ → Bool) (c : Holdings) (p : ℕ) (order : InO
         joined_knows : h < n → down h ≡ false → (theirs h).holders k ≡ true → (k < n) × Vouched down given_out e.source k
         joined_knows l u z = ⊎_elim (λ t. let w = known_of (c h) k t in knows h k w.0 (record { host = l; up = u; has = w.1 }) w.2) (all_vouch k) (or_cases (holders_of (c h) k) (K k) z)
 
-    gains : (h : ℕ) (y : Source) → source_of (given_out h) ≡ Some y → (source_of (c h) ≡ Some y) ⊎ ((h < n) × (down h ≡ false) × (source_of (c p) ≡ Some y))
+    gains : (h : ℕ) (y : Receipt) → source_of (given_out h) ≡ Some y → (source_of (c h) ≡ Some y) ⊎ ((h < n) × (down h ≡ false) × (source_of (c p) ≡ Some y))
     gains h y t =
         let f = ap source_of from.has in
         ⊎_elim (λ w. inl (ap (λ (k : ℕ). source_of (c k)) w.0 ∙ f ∙ sym (ap source_of w.1) ∙ t))
@@ -144,14 +144,14 @@ module _ (n f : ℕ) (down : ℕ → Bool) (c : Holdings) (p : ℕ) (order : InO
     spreads_out : n ≤ 8 → f < n → (f < size K) ⊎ ((k : ℕ) → k < n → down k ≡ false → K k ≡ true) → Spreads n f down p c given_out
     spreads_out small few full = record {
       step = record { order = out_order; keeps = keeps n down down c given_out e.source order agree change (λ k l d. inl d) none; gains = gains };
-      covers = λ y t. let a = out_covers small few full in let b = from.has in let j : e.source ≡ y = cc in subst (λ (z : Source). f < vouchers n down given_out z) j a;
+      covers = λ y t. let a = out_covers small few full in let b = from.has in let j : e.source ≡ y = cc in subst (λ (z : Receipt). f < vouchers n down given_out z) j a;
     }
 
   pub spread_spreads : n ≤ 8 → f < n → p < n → down p ≡ false → Spreads n f down p c (spread_at n f down p c)
   unfolding given_out
   spread_spreads small few l u = go (c p) refl
     where
-      stays : ((y : Source) → source_of (c p) ≡ Some y → f < vouchers n down c y) → Spreads n f down p c c
+      stays : ((y : Receipt) → source_of (c p) ≡ Some y → f < vouchers n down c y) → Spreads n f down p c c
       stays many = record { step = same_step n down c _ order; covers = many }
 
       deep : (e : Holding) → c p ≡ Some e → (t : Bool) → nat_le (size e.holders) f ≡ t → Spreads n f down p c (cond t (hand_out p e (join f down e.holders n) c) c)

@@ -1,10 +1,10 @@
 //! What a host holds of a receipt under family-based logging.
-use logger::determinant::Source;
 use logger::host_set::HostSet;
+use network::message::Receipt;
 
 /// Which message was taken, and the hosts that are known to hold that.
 #[derive(Clone, Copy)]
 pub struct Entry {
-    pub source: Source,
+    pub source: Receipt,
     pub holders: HostSet,
 }

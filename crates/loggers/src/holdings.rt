@@ -1,12 +1,15 @@
 //! What the hosts hold of one receipt, and what each operation does to that.
-ghost use Rattle.std.specs.Prelude.{◌≡◌, ◌<◌, ◌≤◌, if◌then◌else◌};
+ghost use Rattle.std.specs.Prelude.{◌≡◌};
 ghost use Rattle.logger.specs.HostSets.{members};
-ghost use Rattle.loggers.specs.FamilyBased.{holders_of, note_at, taken, given, carry_at, join_one, join, handed, hand_out, spread_at, lose_at, merge, gather, with_self, returned, rejoin_at};
-ghost use Rattle.loggers.specs.FamilyViews.{holding, seen, holdings, Bounded, ruled};
+ghost use Rattle.loggers.specs.FamilyBased.{holders_of, note_at, taken, given, carry_at, handed, hand_out, spread_at, lose_at, merge, gather, with_self, returned, rejoin_at};
+ghost use Rattle.loggers.specs.FamilyViews.{holding, seen, holdings};
 
 use super::entry::Entry;
+use super::members::Members;
 use logger::determinant::Determinant;
 use logger::host_set::HostSet;
+use network::message::Receipt;
+use workload::host::Host;
 
 /// Of one receipt: what each host holds of it.
 pub type Holdings = [Option<Entry>; 8];
@@ -14,224 +17,131 @@ pub type Holdings = [Option<Entry>; 8];
 fn holders_of(entry: Option<Entry>) -> HostSet
     ensures { members result ≡ holders_of (seen entry) }
 {
-    match entry {
-        Some(e) => e.holders,
-        None => HostSet::empty(),
-    }
+    entry.map_or(HostSet::empty(), |e| e.holders)
 }
 
-pub fn note_at(mut held: Holdings, p: u8, d: Determinant) -> Holdings
-    requires { p < 8 }
-    ensures { holdings result ≡ note_at p d (holdings held) }
+pub fn note_at(held: &mut Holdings, p: Host, d: Determinant)
+    ensures { holdings held.new ≡ note_at p d (holdings held.old) }
 {
-    held[p as usize] = Some(Entry {
-        source: d.source(),
+    held[p.index()] = Some(Entry {
+        source: Receipt::from(d),
         holders: HostSet::empty().insert(p),
     });
-    held
 }
 
-fn lose_at(mut held: Holdings, p: u8) -> Holdings
-    requires { p < 8 }
-    ensures { holdings result ≡ lose_at p (holdings held) }
+pub fn lose_at(held: &mut Holdings, p: Host)
+    ensures { holdings held.new ≡ lose_at p (holdings held.old) }
 {
-    held[p as usize] = None;
-    held
+    held[p.index()] = None;
 }
 
 // What p, which held `own`, holds after e was carried to it.
-fn taken(own: Option<Entry>, e: Entry, p: u8) -> Entry
-    requires { p < 8 }
-    ensures { holding result ≡ taken (seen own) (holding e) p }
+fn taken(own: Option<Entry>, e: &Entry, p: Host) -> Entry
+    ensures { holding result ≡ taken (seen own) (holding e.now) p }
 {
     Entry {
-        source: e.source,
         holders: holders_of(own).union(e.holders).insert(p),
+        ..*e
     }
 }
 
 // What the host that held e holds after it was carried to p.
-fn given(e: Entry, p: u8) -> Entry
-    requires { p < 8 }
-    ensures { holding result ≡ given (holding e) p }
+fn given(e: &Entry, p: Host) -> Entry
+    ensures { holding result ≡ given (holding e.now) p }
 {
     Entry {
-        source: e.source,
         holders: e.holders.insert(p),
+        ..*e
     }
 }
 
-fn carry_at(mut held: Holdings, f: u8, s: u8, p: u8) -> Holdings
-    requires { (s < 8) × (p < 8) }
-    ensures { holdings result ≡ carry_at f s p (holdings held) }
+pub fn carry_at(held: &mut Holdings, hosts: &Members, s: Host, p: Host)
+    ensures { holdings held.new ≡ carry_at hosts.now.f s p (holdings held.old) }
 {
-    let Some(e) = held[s as usize] else {
-        return held;
+    let (from, to) = (s.index(), p.index());
+    let Some(e) = held[from] else {
+        return;
     };
-    if e.holders.len() > f {
-        return held;
+    if hosts.too_few(e.holders) {
+        held[to] = Some(taken(held[to], &e, p));
+        held[from] = Some(given(&e, p));
     }
-    held[p as usize] = Some(taken(held[p as usize], e, p));
-    held[s as usize] = Some(given(e, p));
-    held
-}
-
-fn join_one(known: HostSet, f: u8, down: HostSet, h: u8) -> HostSet
-    requires { h < 8 }
-    ensures { members result ≡ join_one f (members down) (members known) h }
-{
-    if known.len() <= f && !down.contains(h) && !known.contains(h) {
-        known.insert(h)
-    } else {
-        known
-    }
-}
-
-// The hosts that are known, and those that join them.
-fn join(known: HostSet, n: u8, f: u8, down: HostSet) -> HostSet
-    requires { n ≤ 8 }
-    ensures { members result ≡ join f (members down) (members known) n }
-{
-    let mut all = known;
-    for h in 0..n {
-        all = join_one(all, f, down, h);
-    }
-    all
 }
 
 // What h, which held `own`, holds in the end: the determinant of e, if h is one of those that joined.
-fn handed(own: Option<Entry>, e: Entry, all: HostSet, h: u8) -> Option<Entry>
-    requires { h < 8 }
-    ensures { seen result ≡ handed (holding e) (members all) h (seen own) }
+fn handed(own: Option<Entry>, e: &Entry, all: HostSet, h: Host) -> Option<Entry>
+    ensures { seen result ≡ handed (holding e.now) (members all) h (seen own) }
 {
     if all.contains(h) && !e.holders.contains(h) {
         Some(Entry {
-            source: e.source,
             holders: holders_of(own).union(all),
+            ..*e
         })
     } else {
         own
     }
 }
 
-fn hand_out(mut held: Holdings, p: u8, e: Entry, all: HostSet) -> Holdings
-    requires { p < 8 }
-    ensures { holdings result ≡ hand_out p (holding e) (members all) (holdings held) }
+// Each host of `all` that e did not know gets the determinant of e, and p knows them all.
+fn hand_out(held: &mut Holdings, p: Host, e: &Entry, all: HostSet)
+    ensures { holdings held.new ≡ hand_out p (holding e.now) (members all) (holdings held.old) }
 {
-    for h in 0..8 {
-        held[h as usize] = handed(held[h as usize], e, all, h);
+    for (h, own) in held.iter_mut().enumerate() {
+        *own = handed(*own, e, all, Host::new(h as u8));
     }
-    held[p as usize] = Some(Entry {
-        source: e.source,
-        holders: all,
-    });
-    held
+    held[p.index()] = Some(Entry { holders: all, ..*e });
 }
 
-fn spread_at(held: Holdings, n: u8, f: u8, down: HostSet, p: u8) -> Holdings
-    requires { (p < 8) × (n ≤ 8) }
-    ensures { holdings result ≡ spread_at n f (members down) p (holdings held) }
+pub fn spread_at(held: &mut Holdings, hosts: &Members, p: Host)
+    ensures { holdings held.new ≡ spread_at hosts.now.n hosts.now.f (members hosts.now.down) p (holdings held.old) }
 {
-    let Some(e) = held[p as usize] else {
-        return held;
+    let Some(e) = held[p.index()] else {
+        return;
     };
-    if e.holders.len() > f {
-        return held;
+    if hosts.too_few(e.holders) {
+        hand_out(held, p, &e, hosts.join(e.holders));
     }
-    hand_out(held, p, e, join(e.holders, n, f, down))
 }
 
 fn merge(a: Option<Entry>, b: Option<Entry>) -> Option<Entry>
     ensures { seen result ≡ merge (seen a) (seen b) }
 {
-    let Some(e) = a else {
-        return b;
-    };
-    let Some(g) = b else {
-        return a;
-    };
-    Some(Entry {
-        source: e.source,
-        holders: e.holders.union(g.holders),
-    })
-}
-
-fn gather_one(all: Option<Entry>, held: Holdings, down: HostSet, h: u8) -> Option<Entry>
-    requires { h < 8 }
-    ensures { seen result ≡ (if members down h then seen all else merge (seen all) (holdings held h)) }
-{
-    if down.contains(h) {
-        all
-    } else {
-        merge(all, held[h as usize])
+    match (a, b) {
+        (Some(e), Some(g)) => Some(Entry {
+            holders: e.holders.union(g.holders),
+            ..e
+        }),
+        _ => a.or(b),
     }
 }
 
 // What the hosts that are up hold, with all the holders that they know.
-pub fn gather(held: Holdings, n: u8, down: HostSet) -> Option<Entry>
-    requires { n ≤ 8 }
-    ensures { seen result ≡ gather (members down) (holdings held) n }
+pub fn gather(held: &Holdings, hosts: &Members) -> Option<Entry>
+    ensures { seen result ≡ gather (members hosts.now.down) (holdings held.now) hosts.now.n }
 {
-    let mut all = None;
-    for h in 0..n {
-        all = gather_one(all, held, down, h);
-    }
-    all
-}
-
-fn with_self(entry: Option<Entry>, h: u8) -> Option<Entry>
-    requires { h < 8 }
-    ensures { seen result ≡ with_self (seen entry) h }
-{
-    let Some(e) = entry else {
-        return None;
-    };
-    Some(Entry {
-        source: e.source,
-        holders: e.holders.insert(h),
-    })
+    hosts
+        .n
+        .hosts()
+        .filter(|h| !hosts.down.contains(*h))
+        .fold(None, |all, h| merge(all, held[h.index()]))
 }
 
 // What h, which held `own`, holds in the end: what was gathered, if h returns.
-fn returned(own: Option<Entry>, all: Option<Entry>, down: HostSet, h: u8) -> Option<Entry>
-    requires { h < 8 }
-    ensures { seen result ≡ returned (members down) (seen all) h (seen own) }
+fn returned(own: Option<Entry>, all: &Option<Entry>, down: HostSet, h: Host) -> Option<Entry>
+    ensures { seen result ≡ returned (members down) (seen all.now) h (seen own) }
 {
     if down.contains(h) {
-        with_self(all, h)
+        all.as_ref().map(|e| given(e, h))
     } else {
         own
     }
 }
 
-fn rejoin_at(mut held: Holdings, n: u8, down: HostSet) -> Holdings
-    requires { n ≤ 8 }
-    ensures { holdings result ≡ rejoin_at n (members down) (holdings held) }
+pub fn rejoin_at(held: &mut Holdings, hosts: &Members)
+    ensures { holdings held.new ≡ rejoin_at hosts.now.n (members hosts.now.down) (holdings held.old) }
 {
-    let all = gather(held, n, down);
-    for h in 0..8 {
-        held[h as usize] = returned(held[h as usize], all, down, h);
-    }
-    held
-}
-
-/// An operation that touches every receipt.
-#[derive(Clone, Copy)]
-pub enum Rule {
-    Carry { f: u8, s: u8, p: u8 },
-    Spread { n: u8, f: u8, down: HostSet, p: u8 },
-    Lose { p: u8 },
-    Rejoin { n: u8, down: HostSet },
-}
-
-pub fn change(held: Holdings, rule: Rule) -> Holdings
-    requires { Bounded rule }
-    ensures { holdings result ≡ ruled rule (holdings held) }
-{
-    match rule {
-        Rule::Carry { f, s, p } => carry_at(held, f, s, p),
-        Rule::Spread { n, f, down, p } => spread_at(held, n, f, down, p),
-        Rule::Lose { p } => lose_at(held, p),
-        Rule::Rejoin { n, down } => rejoin_at(held, n, down),
+    let all = gather(held, hosts);
+    for (h, own) in held.iter_mut().enumerate() {
+        *own = returned(*own, &all, hosts.down, Host::new(h as u8));
     }
 }

@@ -4,8 +4,7 @@
 pub mod entry;
 pub mod family_based;
 mod holdings;
+mod members;
 pub mod pessimistic;
 mod places;
-mod store;
-mod table;
 pub mod worked_example;

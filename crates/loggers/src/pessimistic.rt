@@ -6,17 +6,20 @@ ghost use Rattle.logger.specs.Operation;
 ghost use Rattle.loggers.specs.Stably;
 ghost use Rattle.std.proofs.Common.{rules};
 
-use super::store::Store;
+use super::members::Members;
+use super::places::Places;
 use logger::determinant::Determinant;
 use logger::host_set::HostSet;
 use logger::logger::Logger;
+use network::message::Receipt;
+use network::seq_no::SeqNo;
+use workload::host::Host;
+use workload::host_count::HostCount;
 
 #[derive(Drop)]
 pub struct Pessimistic {
-    n: u8,
-    f: u8,
-    down: HostSet,
-    store: Store,
+    hosts: Members,
+    store: Places<Receipt>,
 }
 
 impl Pessimistic {
@@ -25,10 +28,8 @@ impl Pessimistic {
         ensures { state result ≡ fresh 0 0 }
     {
         Pessimistic {
-            n: 0,
-            f: 0,
-            down: HostSet::empty(),
-            store: Store::empty(),
+            hosts: Members::new(HostCount::new(0), 0),
+            store: Places::empty(),
         }
     }
 }
@@ -50,33 +51,31 @@ impl Logger for Pessimistic {
 
     ghost misses = { Prim.search rules };
 
-    fn start(&mut self, n: u8, f: u8) {
-        self.n = n;
-        self.f = f;
-        self.down = HostSet::empty();
-        self.store = Store::empty();
+    fn start(&mut self, n: HostCount, f: u8) {
+        self.hosts = Members::new(n, f);
+        self.store = Places::empty();
     }
 
-    fn carry(&mut self, _s: u8, _p: u8) {}
+    fn carry(&mut self, _s: Host, _p: Host) {}
 
-    fn note(&mut self, _p: u8, d: Determinant) {
-        self.store.put(d);
+    fn note(&mut self, _p: Host, d: Determinant) {
+        let (q, r) = (Host::new(d.receiver), SeqNo::new(d.number));
+        self.store.set(q, r, Receipt::from(d));
     }
 
-    fn spread(&mut self, _p: u8) {}
+    fn spread(&mut self, _p: Host) {}
 
-    fn lose(&mut self, p: u8) {
-        self.down = self.down.insert(p);
+    fn lose(&mut self, p: Host) {
+        self.hosts.down = self.hosts.down.insert(p);
     }
 
     fn rejoin(&mut self) {
-        self.down = HostSet::empty();
+        self.hosts.down = HostSet::empty();
     }
 
-    fn find(&self, q: u8, r: u8) -> Option<(u8, u8)> {
-        match self.store.get(q, r) {
-            Some(source) => Some((source.sender, source.ssn)),
-            None => None,
-        }
+    fn find(&self, q: Host, r: SeqNo) -> Option<(u8, u8)> {
+        self.store
+            .get(q, r)
+            .map(|source| (source.sender, source.ssn))
     }
 }

@@ -1,12 +1,58 @@
-//! Where a table has its place for a receipt.
-ghost use Rattle.std.specs.Prelude.{◌≡◌, ◌<◌, ◌≤◌};
-ghost use Rattle.loggers.specs.Places.{place};
+//! Tables with a place for each receipt that a determinant can name.
+ghost use Rattle.std.specs.Prelude.{◌≡◌, ℕ, ◌<◌, true, None, option_copied};
+ghost use Rattle.loggers.specs.Places.{place, has_place, at, with_place, EachChanged};
+
+use network::seq_no::SeqNo;
+use workload::host::Host;
+
+/// A place for each receiver and receipt number, empty or not.
+#[derive(Drop)]
+pub struct Places<T> {
+    places: [Option<T>; 512],
+}
 
 /// The place for receipt number r of host q.
-pub fn place(q: u8, r: u8) -> usize
-    requires { (q < 8) × ((1 ≤ r) × (r ≤ 64)) }
+fn place(q: Host, r: SeqNo) -> usize
     ensures value { result ≡ place q r }
     ensures low { result < 512 }
+    ensures named { has_place q r ≡ true }
 {
-    q as usize * 64 + r as usize - 1
+    q.index() * 64 + r.number() as usize - 1
+}
+
+impl<T: Copy> Places<T> {
+    #[tactic(auto, using(crate::proofs::Placing::at_empty))]
+    pub fn empty() -> Places<T>
+        ensures { (q r : ℕ) → at result.places None q r ≡ None }
+    {
+        Places {
+            places: [None; 512],
+        }
+    }
+
+    /// What stands in the place, if it is not empty.
+    pub fn get(&self, q: Host, r: SeqNo) -> Option<&T>
+        ensures { option_copied result ≡ at self.now.places None q r }
+    {
+        self.places[place(q, r)].as_ref()
+    }
+
+    pub fn set(&mut self, q: Host, r: SeqNo, x: T)
+        ensures { at self.new.places None ≡ with_place (at self.old.places None) q r x }
+    {
+        self.places[place(q, r)] = Some(x);
+    }
+
+    /// Changes by a rule what stands in each place that is not empty.
+    pub fn change<F: Fn(&mut T)>(&mut self, rule: F)
+        requires { F.IsAlwaysCallable rule }
+        ensures { EachChanged F.Fn rule self.old.places self.new.places }
+    {
+        // After a `flatten` a proof would know nothing of what the loop wrote.
+        for place in self.places.iter_mut() {
+            if let Some(x) = place {
+                rule(x);
+            }
+        }
+    }
 }
