@@ -4,7 +4,7 @@ use Rattle.std.proofs.lemmas.Bool.{le-leb, cond-true}
 use Rattle.workload.specs.Ledger.{ledger}
 use Rattle.workload.specs.Spacing.{spacing}
 use Rattle.loggers.specs.contracts.pessimistic.PessimisticLogger.TheImpl as pessimistic
-use Rattle.loggers.specs.contracts.family_based.logging.FamilyBasedLogger.TheImpl as family
+use Rattle.loggers.specs.contracts.family_based.FamilyBasedLogger.TheImpl as family
 use Rattle.loggers.specs.Pessimistic as pessimistic_views
 use Rattle.loggers.specs.FamilyViews as family_views
 use Rattle.script.specs.Exact.{pessimistic_logging, family_based_logging}

@@ -3,7 +3,7 @@ use Rattle.std.specs.Prelude.{◌≡◌, ℕ, List, Ok, Err, Result}
 use Rattle.workload.specs.Ledger.{ledger}
 use Rattle.workload.specs.Spacing.{spacing}
 use Rattle.loggers.specs.contracts.pessimistic.PessimisticLogger.TheImpl as pessimistic
-use Rattle.loggers.specs.contracts.family_based.logging.FamilyBasedLogger.TheImpl as family
+use Rattle.loggers.specs.contracts.family_based.FamilyBasedLogger.TheImpl as family
 use Rattle.format.specs.declared.command.Opening.{Opening}
 use Rattle.format.specs.declared.command.LoggerChoice.{LoggerChoice}
 use Rattle.format.specs.declared.command.LoggerChoice.TheVariants.{Pessimistic, FamilyBased}
