@@ -12,7 +12,7 @@ pub type Row = (Call, u8, u64);
 pub fn numbers(answer: Result<u64, Refusal>) -> (u8, u64) {
     match answer {
         Ok(x) => (0, x),
-        Err(refusal) => (refusal.number(), 0),
+        Err(refusal) => (u8::from(refusal), 0),
     }
 }
 
