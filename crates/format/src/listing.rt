@@ -42,6 +42,13 @@ impl<'a> Listing<'a> {
         self.written
     }
 
+    /// How many bytes the buffer has.
+    pub fn capacity(&self) -> usize
+        ensures { result ≡ length self.now.bytes.now }
+    {
+        self.bytes.len()
+    }
+
     /// Puts a text after what is written, whole or not at all.
     pub fn put(&mut self, text: &[u8]) -> Result<(), ListFault>
         ensures value { result ≡ whether_put (ending self.old.bytes.now self.old.written text.now) }
