@@ -117,8 +117,14 @@ impl fmt::Display for Stop {
     ghost output = { λ s. Some (stop_line s) };
 
     fn fmt<W: fmt::Write>(&self, f: &mut fmt::Formatter<W>) -> fmt::Result {
-        let layer = self.fault.layer();
-        let number = u8::from(self.fault);
-        writeln!(f, "! {layer} {number} {} {}", self.command, self.place)
+        let fault = self.fault;
+        writeln!(
+            f,
+            "! {} {} {} {}",
+            fault.layer(),
+            u8::from(fault),
+            self.command,
+            self.place
+        )
     }
 }

@@ -51,10 +51,11 @@ impl<'a> Reader<'a> {
         ensures script { self.new.script ≡ self.old.script }
         ensures at { self.new.at ≡ past_opening self.old.at result }
     {
-        let mut ahead = *self;
-        let Ok([0]) = ahead.take::<1>() else {
+        let at = self.place();
+        if self.script.get(at) != Some(&0) {
             return Err(ReadFault::NoOpen);
-        };
+        }
+        let mut ahead = Reader::new(self.script, at + 1);
         let opening = Opening::try_from(ahead.take()?)?;
         *self = ahead;
         Ok(opening)
@@ -66,10 +67,11 @@ impl<'a> Reader<'a> {
         ensures script { self.new.script ≡ self.old.script }
         ensures at { self.new.at ≡ past self.old.at (heard result) }
     {
-        let mut ahead = *self;
-        let Ok(&[kind]) = ahead.take::<1>() else {
+        let at = self.place();
+        let Some(&kind) = self.script.get(at) else {
             return Ok(None);
         };
+        let mut ahead = Reader::new(self.script, at + 1);
         let command = match kind {
             1 => Command::Post(ahead.take()?),
             2 => Command::Deliver(ahead.take()?),
