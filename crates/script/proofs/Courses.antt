@@ -42,8 +42,8 @@ not_put : (o : Result ℕ ListFault) (f : RunFault) → Err f ≡ listed o → (
 not_put (Ok x) f h = let z : ◌≡◌ {A = ℕ} 0 1 = cc in absurd (omega arith)
 not_put (Err e) f h = (e, refl, cc)
 
-module _ {L S : Type 0} (log : logger.Ghosts L) (s : List ℕ) (a₀ : System S L) (i₀ k₀ : ℕ) (xs₀ : List ℕ) (w₀ : ℕ)
-    (t : List Made) (a b : System S L) (c d : Course) (l m : Listing) (R : Reached log s a₀ i₀ k₀ xs₀ w₀ t a c.place c.number l.bytes.now l.written) (same : c.script.now ≡ s) where
+module _ {L S : Type 0} {log : logger.Ghosts L} {s : List ℕ} {a₀ : System S L} {i₀ k₀ : ℕ} {xs₀ : List ℕ} {w₀ : ℕ} {t : List Made} {a : System S L}
+    (b : System S L) (c d : Course) (l m : Listing) (R : Reached log s a₀ i₀ k₀ xs₀ w₀ t a c.place c.number l.bytes.now l.written) (same : c.script.now ≡ s) where
   abbrev read : Result (Option Call) ReadFault
   read = reading c.script.now c.place
 

@@ -12,6 +12,11 @@ pub record Begins (c : Course) (l : Listing) : Type 0 where
   pub place : c.place ≡ 0
   pub written : l.written ≡ 0
 
+-- over the same script and the same buffer
+pub record SameRun (c d : Course) (l m : Listing) : Type 0 where
+  pub script : d.script ≡ c.script
+  pub buffer : m.bytes.ghost_name ≡ l.bytes.ghost_name
+
 -- at the same command, with the same lines
 pub record Stays (c d : Course) (l m : Listing) : Type 0 where
   pub place : d.place ≡ c.place

@@ -2,7 +2,7 @@ ghost use Rattle.std.specs.Prelude.{◌≡◌, ◌≤◌, length};
 ghost use Rattle.script.specs.Choice.{RunsChosen, RunsRead};
 ghost use Rattle.script.specs.Course.{Runs};
 ghost use Rattle.script.specs.Run.{left, first_read, whole, EndsByItself};
-ghost use Rattle.script.specs.Standing.{Begins, leaving};
+ghost use Rattle.script.specs.Standing.{Begins, SameRun, leaving};
 
 use super::Ran;
 use super::course::Course;
@@ -43,8 +43,7 @@ impl Course<'_> {
     ) -> Result<(), RunFault>
         requires { Begins self.old listing.old }
         ensures runs { Runs L.Logger W.Workload.machine opening.n opening.f self.old.script.now listing.old.bytes.now (leaving self.new listing.new result) }
-        ensures script { self.new.script ≡ self.old.script }
-        ensures buffer { listing.new.bytes.ghost_name ≡ listing.old.bytes.ghost_name }
+        ensures same { SameRun self.old self.new listing.old listing.new }
     {
         let mut cluster = Cluster::new(logger, workload);
         self.play_on(&mut cluster, opening.n, opening.f, listing)
@@ -54,8 +53,7 @@ impl Course<'_> {
     fn play_chosen(&mut self, opening: Opening, listing: &mut Listing) -> Result<(), RunFault>
         requires { Begins self.old listing.old }
         ensures runs { RunsChosen opening.logger opening.workload opening.n opening.f self.old.script.now listing.old.bytes.now (leaving self.new listing.new result) }
-        ensures script { self.new.script ≡ self.old.script }
-        ensures buffer { listing.new.bytes.ghost_name ≡ listing.old.bytes.ghost_name }
+        ensures same { SameRun self.old self.new listing.old listing.new }
     {
         match (opening.logger, opening.workload) {
             (LoggerChoice::Pessimistic, WorkloadChoice::Ledger) => {
@@ -77,8 +75,7 @@ impl Course<'_> {
     fn play(&mut self, listing: &mut Listing) -> Result<(), RunFault>
         requires { Begins self.old listing.old }
         ensures runs { RunsRead (first_read self.old.script.now listing.old.bytes.now) self.old.script.now listing.old.bytes.now (leaving self.new listing.new result) }
-        ensures script { self.new.script ≡ self.old.script }
-        ensures buffer { listing.new.bytes.ghost_name ≡ listing.old.bytes.ghost_name }
+        ensures same { SameRun self.old self.new listing.old listing.new }
     {
         let opening = self.first(listing)?;
         self.play_chosen(opening, listing)

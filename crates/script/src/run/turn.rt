@@ -3,7 +3,7 @@ ghost use Rattle.cluster.specs.View.{system};
 ghost use Rattle.format.specs.Reader.{reading};
 ghost use Rattle.script.specs.Course.{OpenListed, Turned, Finished, Runs};
 ghost use Rattle.script.specs.Run.{left};
-ghost use Rattle.script.specs.Standing.{Begins, AfterOpen, AfterTurn, first_end, turn_end, leaving};
+ghost use Rattle.script.specs.Standing.{Begins, SameRun, AfterOpen, AfterTurn, first_end, turn_end, leaving};
 
 use super::Ran;
 use super::course::Course;
@@ -26,8 +26,7 @@ impl Course<'_> {
     ) -> Result<(), RunFault>
         requires { Begins self.old listing.old }
         ensures listed { OpenListed L.Logger W.Workload.machine n f listing.old.bytes.now (system W.Workload cluster.old) (first_end result listing.new) listing.new.bytes.now (system W.Workload cluster.new) }
-        ensures script { self.new.script ≡ self.old.script }
-        ensures buffer { listing.new.bytes.ghost_name ≡ listing.old.bytes.ghost_name }
+        ensures same { SameRun self.old self.new listing.old listing.new }
         ensures after { AfterOpen result self.old self.new listing.old listing.new }
     {
         let answer = cluster.open(n, f)?;
@@ -50,8 +49,7 @@ impl Course<'_> {
     ) -> Result<bool, RunFault>
         requires { self.old.number ≤ self.old.place }
         ensures turned { Turned L.Logger (reading self.old.script.now self.old.place) self.old.number listing.old.bytes.now listing.old.written (system W.Workload cluster.old) (turn_end result listing.new) listing.new.bytes.now (system W.Workload cluster.new) }
-        ensures script { self.new.script ≡ self.old.script }
-        ensures buffer { listing.new.bytes.ghost_name ≡ listing.old.bytes.ghost_name }
+        ensures same { SameRun self.old self.new listing.old listing.new }
         ensures after { AfterTurn result self.old self.new listing.old listing.new }
     {
         let mut reader = Reader::new(self.script, self.place);
@@ -76,8 +74,7 @@ impl Course<'_> {
     ) -> Result<(), RunFault>
         requires { self.old.number ≤ self.old.place }
         ensures finished { Finished L.Logger self.old.script.now (system W.Workload cluster.old) self.old.place self.old.number listing.old.bytes.now listing.old.written (leaving self.new listing.new result) }
-        ensures script { self.new.script ≡ self.old.script }
-        ensures buffer { listing.new.bytes.ghost_name ≡ listing.old.bytes.ghost_name }
+        ensures same { SameRun self.old self.new listing.old listing.new }
     {
         while self.turn(cluster, listing)? {}
         Ok(())
@@ -93,8 +90,7 @@ impl Course<'_> {
     ) -> Result<(), RunFault>
         requires { Begins self.old listing.old }
         ensures runs { Runs L.Logger W.Workload.machine n f self.old.script.now listing.old.bytes.now (leaving self.new listing.new result) }
-        ensures script { self.new.script ≡ self.old.script }
-        ensures buffer { listing.new.bytes.ghost_name ≡ listing.old.bytes.ghost_name }
+        ensures same { SameRun self.old self.new listing.old listing.new }
     {
         self.open(cluster, n, f, listing)?;
         self.rest(cluster, listing)

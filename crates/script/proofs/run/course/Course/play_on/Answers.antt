@@ -15,4 +15,4 @@ returns-clause-runs g c =
     let met = g.met.L.Logger in
     opens g.L.Logger (record { begins = met.begins; lawful = met.lawful; finds = met.finds; misses = met.misses }) g.W.Workload.machine c.args.n c.args.f
     (system g.W.Workload c.args.cluster.now) (system g.W.Workload c.open.new.cluster) c.args.self.now c.open.new.self c.args.listing.now c.open.new.listing c.requires
-    (leaving c.rest.new.self c.rest.new.listing c.rest.result) (rw c.in_ok-open.was at c.open.ensures.listed) (rw c.in_ok-open.was at c.open.ensures.after) c.open.ensures.script c.rest.ensures.finished
+    (leaving c.rest.new.self c.rest.new.listing c.rest.result) (rw c.in_ok-open.was at c.open.ensures.listed) (rw c.in_ok-open.was at c.open.ensures.after) c.open.ensures.same.script c.rest.ensures.finished
