@@ -109,7 +109,7 @@ impl TryFrom<u8> for WorkloadChoice {
 pub const OPEN_LETTER: u8 = b'O';
 
 /// The first command: the number of hosts, how many may be down at once, the logger and the workload.
-#[derive(Clone, Copy)]
+#[derive(Clone, Copy, PartialEq, Eq, Debug)]
 pub struct Opening {
     pub n: u8,
     pub f: u8,

@@ -47,7 +47,7 @@ impl From<ListFault> for u8 {
 }
 
 /// Why a run stops: the fault of the layer below, whole.
-#[derive(Clone, Copy)]
+#[derive(Clone, Copy, PartialEq, Eq, Debug)]
 pub enum RunFault {
     Reader(ReadFault),
     Cluster(Refusal),
@@ -105,7 +105,7 @@ impl From<RunFault> for u8 {
 }
 
 /// Where a run stops and why: the number of the command, from 1, and the place of its kind byte in the script, from 0.
-#[derive(Clone, Copy)]
+#[derive(Clone, Copy, PartialEq, Eq, Debug)]
 pub struct Stop {
     pub fault: RunFault,
     pub command: u64,

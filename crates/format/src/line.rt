@@ -6,10 +6,12 @@ use crate::listing::Entry;
 use arrayvec::ArrayVec;
 use itoa::Buffer;
 
-/// The most bytes that a line has: an exclamation mark and a space, and four numbers of at most 20 digits with a byte after each.
+/// The most bytes that a line has: an exclamation mark and a space, and four numbers of at most 20 digits with a byte
+/// after each.
 pub const ROOM: usize = 86;
 
-/// A line of a listing. It is not made by `write!`, whose contract leaves open when it fails: a line always comes about.
+/// A line of a listing: bytes and no text, since its letter may be any byte. It is not made by `write!`, whose contract
+/// leaves open when it fails: a line always comes about.
 #[derive(Drop)]
 pub struct Line(ArrayVec<u8, ROOM>);
 

@@ -25,21 +25,20 @@ inside s i c e =
       | inl l ↦ l
       | inr l ↦
           let none : reading s i ≡ Ok None = cond-false (ltb i (length s)) _ _ (le-ltb i (length s) l) in
-          let z : ◌≡◌ {A = ℕ} 0 1 = cc in
-          absurd (omega arith)
+          absurd (cc)
     ]
 
 -- what a line that was put, or not, says of a turn's answer
 put_some : (o : Result ℕ ListFault) (end : ℕ) → Ok (Some end) ≡ listed o → o ≡ Ok end
 put_some (Ok x) end e = cc
-put_some (Err f) end e = let z : ◌≡◌ {A = ℕ} 0 1 = cc in absurd (omega arith)
+put_some (Err f) end e = absurd (cc)
 
 never_none : (o : Result ℕ ListFault) → Ok None ≡ listed o → ⊥
-never_none (Ok x) e = let z : ◌≡◌ {A = ℕ} 0 1 = cc in omega arith
-never_none (Err f) e = let z : ◌≡◌ {A = ℕ} 0 1 = cc in omega arith
+never_none (Ok x) e = cc
+never_none (Err f) e = cc
 
 not_put : (o : Result ℕ ListFault) (f : RunFault) → Err f ≡ listed o → (e : ListFault) × (o ≡ Err e) × (f ≡ RunFault.Listing e)
-not_put (Ok x) f h = let z : ◌≡◌ {A = ℕ} 0 1 = cc in absurd (omega arith)
+not_put (Ok x) f h = absurd (cc)
 not_put (Err e) f h = (e, refl, cc)
 
 module _ {L S : Type 0} {log : logger.Ghosts L} {s : List ℕ} {a₀ : System S L} {i₀ k₀ : ℕ} {xs₀ : List ℕ} {w₀ : ℕ} {t : List Made} {a : System S L}
@@ -65,8 +64,8 @@ module _ {L S : Type 0} {log : logger.Ghosts L} {s : List ℕ} {a₀ : System S 
   more T A = go read reads T A
     where
       go : (h : Result (Option Call) ReadFault) → reading s c.place ≡ h → Turn (Ok true) h → GoesTo (past c.place h) c d → More
-      go (Ok None) q T A = let f = T.0 in let z : ◌≡◌ {A = ℕ} 0 1 = cc in absurd (omega arith)
-      go (Err x) q T A = let f = T.0 in let z : ◌≡◌ {A = ℕ} 0 1 = cc in absurd (omega arith)
+      go (Ok None) q T A = let f = T.0 in absurd (cc)
+      go (Err x) q T A = let f = T.0 in absurd (cc)
       go (Ok (Some x)) q T A =
           let calls = t ++ (record { call = x; answer = T.answer } ∷ []) in
           let put = put_some (ending l.bytes.now l.written (call_line c.number x T.answer)) m.written T.value in
@@ -88,7 +87,7 @@ module _ {L S : Type 0} {log : logger.Ghosts L} {s : List ℕ} {a₀ : System S 
       go : (h : Result (Option Call) ReadFault) → reading s c.place ≡ h → Turn (Ok false) h → Finished log s a₀ i₀ k₀ xs₀ w₀ (ends m.bytes.now l.written)
       go (Ok None) q T =
           record { calls = t; system = a; ended = subst (λ (zs : List ℕ). Ended log s a₀ i₀ k₀ xs₀ w₀ t a (ends zs l.written)) (sym T.1) (Ended.over R q) }
-      go (Err x) q T = let f = T.0 in let z : ◌≡◌ {A = ℕ} 0 1 = cc in absurd (omega arith)
+      go (Err x) q T = let f = T.0 in absurd (cc)
       go (Ok (Some x)) q T = absurd (never_none (ending l.bytes.now l.written (call_line c.number x T.answer)) T.value)
 
   -- the last turn, at a stop
@@ -101,7 +100,7 @@ module _ {L S : Type 0} {log : logger.Ghosts L} {s : List ℕ} {a₀ : System S 
 
       go : (h : Result (Option Call) ReadFault) → reading s c.place ≡ h → Turn (Err f) h
           → Finished log s a₀ i₀ k₀ xs₀ w₀ (stops m.bytes.now l.written f c.number c.place)
-      go (Ok None) q T = let g = T.0 in let z : ◌≡◌ {A = ℕ} 0 1 = cc in absurd (omega arith)
+      go (Ok None) q T = let g = T.0 in absurd (cc)
       go (Err x) q T =
           let g = T.0 in
           let fault : f ≡ RunFault.Reader x = cc in

@@ -36,10 +36,10 @@ module _ {L S : Type 0} (log : logger.Ghosts L) (m : Machine S) (n f : ℕ) (s :
 -- what a line that was put, or not, says of the answer
 first_put : (o : Result ℕ ListFault) (end : ℕ) → Ok end ≡ first_listed o → o ≡ Ok end
 first_put (Ok x) end e = cc
-first_put (Err f) end e = let z : ◌≡◌ {A = ℕ} 0 1 = cc in absurd (omega arith)
+first_put (Err f) end e = absurd (cc)
 
 first_not_put : (o : Result ℕ ListFault) (f : RunFault) → Err f ≡ first_listed o → (e : ListFault) × (o ≡ Err e) × (f ≡ RunFault.Listing e)
-first_not_put (Ok x) f h = let z : ◌≡◌ {A = ℕ} 0 1 = cc in absurd (omega arith)
+first_not_put (Ok x) f h = absurd (cc)
 first_not_put (Err e) f h = (e, refl, cc)
 
 module _ {L S : Type 0} (log : logger.Ghosts L) (laws : Laws log) (machine : ℕ → Machine S) (n f : ℕ) (s before : List ℕ) (a b : System S L) (ys : List ℕ) where
@@ -81,8 +81,7 @@ module _ {L S : Type 0} (log : logger.Ghosts L) (laws : Laws log) (machine : ℕ
           }
       go (Err e) ok h =
           let v = O.value ∙ ap (λ (r : Answer). open_value r before) (sym (ap (λ (r : Answer × Cluster S). r.0) h.0)) in
-          let z : ◌≡◌ {A = ℕ} 0 1 = cc in
-          absurd (omega arith)
+          absurd (cc)
 
   -- the open is refused, or its line does not fit
   stops_at_once : (fault : RunFault) → OpenListed log machine n f before a (Err fault) ys b → Runs log machine n f s before (stops ys 0 fault 1 0)

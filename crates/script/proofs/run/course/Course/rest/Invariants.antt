@@ -1,4 +1,4 @@
-use Rattle.std.proofs.Common.{◌≡◌, ◌-◌, ◌≤◌, List, length}
+use Rattle.std.proofs.Common.{◌-◌, ◌≤◌, List, length}
 use Rattle.calls.specs.declared.call.Made.{Made}
 use Rattle.cluster.specs.View.{system}
 use Rattle.script.specs.Course.{Reached}
