@@ -1,7 +1,6 @@
 //! Plays the script on standard input, and writes its listing, and the line of a stop, to standard output.
 #![tactic(auto)]
 
-use format::line::Line;
 use script::run::{MOST, play};
 use std::io;
 use std::io::{Read, Write};
@@ -16,8 +15,8 @@ fn main(rt: HostRuntime) -> io::Result<()> {
     let ran = play(script.as_slice(), bytes);
     let written = ran.written;
     rt.stdout().write_all(&bytes[0..written])?;
-    match ran.stop {
-        Some(stop) => rt.stdout().write_all(Line::of_stop(&stop).as_slice()),
-        None => Ok(()),
+    if let Some(stop) = ran.stop {
+        print!(rt; "{stop}")?;
     }
+    Ok(())
 }

@@ -1,6 +1,7 @@
 pub mod Cluster
 pub mod Recovery
 pub mod Calls
+pub mod Text
 pub mod Trace
 pub mod Guarantee
 pub mod Sound

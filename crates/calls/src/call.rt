@@ -1,4 +1,8 @@
+ghost use Rattle.std.specs.Prelude.{Some};
+ghost use Rattle.calls.specs.Text.{call_text};
+
 use network::refusal::Refusal;
+use std::fmt;
 
 /// A call on an open cluster. Hosts and senders go by number, and a sender may be the outside world.
 #[derive(Clone, Copy)]
@@ -18,6 +22,24 @@ pub enum Call {
     Recover,
     /// The number that stands for the state of a host.
     Show(u8),
+}
+
+impl fmt::Display for Call {
+    ghost output = { λ c. Some (call_text c) };
+
+    fn fmt<W: fmt::Write>(&self, f: &mut fmt::Formatter<W>) -> fmt::Result {
+        match *self {
+            Call::Post(p, body) => write!(f, "post {body:016x} to host {p}"),
+            Call::Deliver(p, s) => write!(f, "host {p} takes from {s}"),
+            Call::Cut(p, s, point) => {
+                write!(f, "host {p} takes from {s} and goes down at point {point}")
+            }
+            Call::Release(p) => write!(f, "host {p} releases"),
+            Call::Crash(p) => write!(f, "host {p} crashes"),
+            Call::Recover => f.write_str("recover"),
+            Call::Show(p) => write!(f, "host {p} shows"),
+        }
+    }
 }
 
 /// A call that was made, with its answer.

@@ -21,10 +21,7 @@ const NARROW: u32 = 0x3980_0000;
 fn print_answer(rt: &HostRuntime, answer: Result<u64, Refusal>) -> io::Result<()> {
     match answer {
         Ok(ssn) => println!(rt; "message {ssn}"),
-        Err(refusal) => {
-            let number = refusal.number();
-            println!(rt; "refused by check {number}")
-        }
+        Err(refusal) => println!(rt; "{refusal}"),
     }
 }
 

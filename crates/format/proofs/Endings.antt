@@ -1,22 +1,8 @@
--- Where a text ends that was put into a listing.
-use Rattle.std.proofs.Common.{◌≡◌, ℕ, ◌+◌, ◌≤◌, Bool, true, false, cond, List, length, Ok, Err, Result, sym, refl, ap, ◌∙◌, arith, leb-true}
+-- A text that does not fit in a listing.
+use Rattle.std.proofs.Common.{◌≡◌, ℕ, ◌+◌, Bool, true, false, cond, List, length, Ok, Err, Result, sym, refl, ap, ◌∙◌}
 use Rattle.format.specs.declared.fault.ListFault.{ListFault}
 use Rattle.format.specs.declared.fault.ListFault.TheVariants.{Full}
 use Rattle.format.specs.Lines.{fits, placed, ending}
-
-pub ending_within : (xs t : List ℕ) (w end : ℕ) → Ok end ≡ ending xs w t → end ≤ length xs
-ending_within xs t w end e = go (fits xs w t) refl
-  where
-    go : (b : Bool) → fits xs w t ≡ b → end ≤ length xs
-    go true h =
-        let e' : Ok end ≡ cond true (Ok (w + length t)) (Err Full) = e ∙ ap (λ (b : Bool). cond {A = Result ℕ ListFault} b (Ok (w + length t)) (Err Full)) h in
-        let f : end ≡ w + length t = cc in
-        let g = leb-true (w + length t) (length xs) h in
-        omega arith
-    go false h =
-        let e' : Ok end ≡ cond false (Ok (w + length t)) (Err Full) = e ∙ ap (λ (b : Bool). cond {A = Result ℕ ListFault} b (Ok (w + length t)) (Err Full)) h in
-        let z : ◌≡◌ {A = ℕ} 0 1 = cc in
-        absurd (omega arith)
 
 -- a text that does not fit leaves the listing as it was
 pub placed_full : (xs t : List ℕ) (w : ℕ) (e : ListFault) → ending xs w t ≡ Err e → placed xs w t ≡ xs
@@ -25,6 +11,5 @@ placed_full xs t w e h = go (fits xs w t) refl
     go : (b : Bool) → fits xs w t ≡ b → placed xs w t ≡ xs
     go true g =
         let e' : cond true (Ok (w + length t)) (Err Full) ≡ Err e = sym (ap (λ (b : Bool). cond {A = Result ℕ ListFault} b (Ok (w + length t)) (Err Full)) g) ∙ h in
-        let z : ◌≡◌ {A = ℕ} 0 1 = cc in
-        absurd (omega arith)
+        absurd (cc)
     go false g = simp g

@@ -1,4 +1,1 @@
-pub mod Parts
-pub mod Numbers
-pub mod Places
 pub mod Endings

@@ -11,7 +11,7 @@ use Rattle.format.specs.Faults.{layer, fault_number}
 
 -- what was written of a line
 abbrev pub text : Line → List ℕ
-text l = take l.len l.bytes
+text l = l.0.items
 
 -- the number of the refusal, and what was answered: 0 where there is none
 abbrev pub refusal_in : Answer → ℕ
@@ -48,3 +48,12 @@ placed xs i t = cond (fits xs i t) (take i xs ++ t ++ drop (i + length t) xs) xs
 -- where it ends, if it was put
 abbrev pub ending : List ℕ → ℕ → List ℕ → Result ℕ ListFault
 ending xs i t = cond (fits xs i t) (Ok (i + length t)) (Err Full)
+
+-- whether it was put, and how much is written then
+abbrev pub whether_put : Result ℕ ListFault → Result (Unit {0}) ListFault
+whether_put (Ok end) = Ok tt
+whether_put (Err e) = Err e
+
+abbrev pub written_then : ℕ → Result ℕ ListFault → ℕ
+written_then w (Ok end) = end
+written_then w (Err e) = w

@@ -1,6 +1,8 @@
 ghost use Rattle.std.specs.Prelude.{◌≡◌};
 ghost use Rattle.format.specs.Commands.{call_of, letter};
+ghost use Rattle.format.specs.Reader.{logger_numbered, workload_numbered, opening_in};
 
+use crate::fault::ReadFault;
 use calls::call::Call;
 
 /// A command after the first, with its body as it stands in the script.
@@ -22,27 +24,27 @@ pub enum Command<'a> {
     Show(&'a [u8; 1]),
 }
 
-impl<'a> Command<'a> {
-    /// The call that the command asks for.
-    pub fn call(self) -> Call
-        ensures { result ≡ call_of self.entry }
-    {
-        match self {
-            Command::Post(b) => {
-                Call::Post(
-                    b[0],
-                    u64::from_be_bytes([b[1], b[2], b[3], b[4], b[5], b[6], b[7], b[8]]),
-                )
+/// The call that the command asks for.
+impl From<Command<'_>> for Call {
+    ghost from_gives = { λ c k. k ≡ call_of c };
+
+    fn from(command: Command<'_>) -> Call {
+        match command {
+            // not `body @ ..`: no proof covers a copy of part of an array
+            Command::Post(&[host, a, b, c, d, e, f, g, h]) => {
+                Call::Post(host, u64::from_be_bytes([a, b, c, d, e, f, g, h]))
             }
-            Command::Deliver(b) => Call::Deliver(b[0], b[1]),
-            Command::Cut(b) => Call::Cut(b[0], b[1], b[2]),
-            Command::Release(b) => Call::Release(b[0]),
-            Command::Crash(b) => Call::Crash(b[0]),
+            Command::Deliver(&[host, sender]) => Call::Deliver(host, sender),
+            Command::Cut(&[host, sender, point]) => Call::Cut(host, sender, point),
+            Command::Release(&[host]) => Call::Release(host),
+            Command::Crash(&[host]) => Call::Crash(host),
             Command::Recover => Call::Recover,
-            Command::Show(b) => Call::Show(b[0]),
+            Command::Show(&[host]) => Call::Show(host),
         }
     }
+}
 
+impl Command<'_> {
     /// The letter that stands for the command in a listing.
     pub fn letter(self) -> u8
         ensures { result ≡ letter (call_of self.entry) }
@@ -66,6 +68,21 @@ pub enum LoggerChoice {
     FamilyBased,
 }
 
+/// The logger of this number. Number 0 stands for the default.
+impl TryFrom<u8> for LoggerChoice {
+    type Error = ReadFault;
+
+    ghost try_from_gives = { λ k r. r ≡ logger_numbered k };
+
+    fn try_from(number: u8) -> Result<LoggerChoice, ReadFault> {
+        match number {
+            0 | 1 => Ok(LoggerChoice::Pessimistic),
+            2 => Ok(LoggerChoice::FamilyBased),
+            _ => Err(ReadFault::NoSuchChoice),
+        }
+    }
+}
+
 /// The workloads that ship.
 #[derive(Clone, Copy, PartialEq, Eq, Debug)]
 pub enum WorkloadChoice {
@@ -73,14 +90,46 @@ pub enum WorkloadChoice {
     Spacing,
 }
 
+/// The workload of this number.
+impl TryFrom<u8> for WorkloadChoice {
+    type Error = ReadFault;
+
+    ghost try_from_gives = { λ k r. r ≡ workload_numbered k };
+
+    fn try_from(number: u8) -> Result<WorkloadChoice, ReadFault> {
+        match number {
+            1 => Ok(WorkloadChoice::Ledger),
+            2 => Ok(WorkloadChoice::Spacing),
+            _ => Err(ReadFault::NoSuchChoice),
+        }
+    }
+}
+
 /// The letter that stands for the first command in a listing.
 pub const OPEN_LETTER: u8 = b'O';
 
 /// The first command: the number of hosts, how many may be down at once, the logger and the workload.
-#[derive(Clone, Copy)]
+#[derive(Clone, Copy, PartialEq, Eq, Debug)]
 pub struct Opening {
     pub n: u8,
     pub f: u8,
     pub logger: LoggerChoice,
     pub workload: WorkloadChoice,
+}
+
+/// What the body of an open asks for.
+impl TryFrom<&[u8; 4]> for Opening {
+    type Error = ReadFault;
+
+    ghost try_from_gives = { λ b r. r ≡ opening_in b.now };
+
+    fn try_from(body: &[u8; 4]) -> Result<Opening, ReadFault> {
+        let [n, f, logger, workload] = *body;
+        Ok(Opening {
+            n,
+            f,
+            logger: logger.try_into()?,
+            workload: workload.try_into()?,
+        })
+    }
 }

@@ -1,8 +1,10 @@
-ghost use Rattle.std.specs.Prelude.{◌≡◌, ◌≤◌};
+ghost use Rattle.std.specs.Prelude.{◌≡◌, ◌≤◌, Some};
 ghost use Rattle.format.specs.Faults.{read_number, list_number, layer, fault_number};
+ghost use Rattle.format.specs.Lines.{stop_line};
 ghost use Rattle.format.specs.declared.fault.RunFault.TheVariants.{Reader, Cluster, Listing};
 
 use network::refusal::Refusal;
+use std::fmt;
 
 /// Why a script cannot be read on: the first of the reader's checks that fails. They go on from those of the cluster.
 #[derive(Clone, Copy, PartialEq, Eq, Debug)]
@@ -19,12 +21,12 @@ pub enum ReadFault {
     NoSuchChoice = 19,
 }
 
-impl ReadFault {
-    /// The number of the check.
-    pub fn number(self) -> u8
-        ensures { result ≡ read_number self }
-    {
-        self as u8
+/// The number of the check.
+impl From<ReadFault> for u8 {
+    ghost from_gives = { λ e k. k ≡ read_number e };
+
+    fn from(fault: ReadFault) -> u8 {
+        fault as u8
     }
 }
 
@@ -35,17 +37,17 @@ pub enum ListFault {
     Full = 20,
 }
 
-impl ListFault {
-    /// The number of the check.
-    pub fn number(self) -> u8
-        ensures { result ≡ list_number self }
-    {
-        self as u8
+/// The number of the check.
+impl From<ListFault> for u8 {
+    ghost from_gives = { λ e k. k ≡ list_number e };
+
+    fn from(fault: ListFault) -> u8 {
+        fault as u8
     }
 }
 
 /// Why a run stops: the fault of the layer below, whole.
-#[derive(Clone, Copy)]
+#[derive(Clone, Copy, PartialEq, Eq, Debug)]
 pub enum RunFault {
     Reader(ReadFault),
     Cluster(Refusal),
@@ -87,24 +89,42 @@ impl RunFault {
             RunFault::Listing(_) => 3,
         }
     }
+}
 
-    /// The number of the check that fails.
-    pub fn number(self) -> u8
-        ensures value { result ≡ fault_number self }
-        ensures most { result ≤ 20 }
-    {
-        match self {
-            RunFault::Reader(e) => e.number(),
-            RunFault::Cluster(e) => e.number(),
-            RunFault::Listing(e) => e.number(),
+/// The number of the check that fails.
+impl From<RunFault> for u8 {
+    ghost from_gives = { λ e k. (k ≡ fault_number e) × (k ≤ 20) };
+
+    fn from(fault: RunFault) -> u8 {
+        match fault {
+            RunFault::Reader(e) => u8::from(e),
+            RunFault::Cluster(e) => u8::from(e),
+            RunFault::Listing(e) => u8::from(e),
         }
     }
 }
 
 /// Where a run stops and why: the number of the command, from 1, and the place of its kind byte in the script, from 0.
-#[derive(Clone, Copy)]
+#[derive(Clone, Copy, PartialEq, Eq, Debug)]
 pub struct Stop {
     pub fault: RunFault,
     pub command: u64,
     pub place: usize,
+}
+
+/// The line of a stop.
+impl fmt::Display for Stop {
+    ghost output = { λ s. Some (stop_line s) };
+
+    fn fmt<W: fmt::Write>(&self, f: &mut fmt::Formatter<W>) -> fmt::Result {
+        let fault = self.fault;
+        writeln!(
+            f,
+            "! {} {} {} {}",
+            fault.layer(),
+            u8::from(fault),
+            self.command,
+            self.place
+        )
+    }
 }

@@ -1,5 +1,5 @@
-ghost use Rattle.std.specs.Prelude.{◌≡◌};
-ghost use Rattle.format.specs.Lines.{text, answer_line, stop_line, placed, ending};
+ghost use Rattle.std.specs.Prelude.{◌≡◌, ◌≤◌, length};
+ghost use Rattle.format.specs.Lines.{stop_line, placed, ending};
 
 use crate::fault::{ListFault, Stop};
 use crate::line::Line;
@@ -13,67 +13,68 @@ pub struct Entry {
     pub answer: Result<u64, Refusal>,
 }
 
-impl Line {
-    /// The line of a command: its number, its letter, the refusal or 0, the answer or 0.
-    pub fn of_answer(entry: &Entry) -> Line
-        ensures { text result ≡ answer_line entry.now }
-    {
-        let (refusal, value) = match entry.answer {
-            Ok(value) => (0, value),
-            Err(refusal) => (refusal.number(), 0),
-        };
-        let mut line = Line::new();
-        line.number(entry.number);
-        line.byte(b' ');
-        line.byte(entry.letter);
-        line.byte(b' ');
-        line.number(refusal as u64);
-        line.byte(b' ');
-        line.number(value);
-        line.byte(b'\n');
-        line
-    }
-
-    /// The line of a stop: an exclamation mark, the layer, the fault's number, the command and its place.
-    pub fn of_stop(stop: &Stop) -> Line
-        ensures { text result ≡ stop_line stop.now }
-    {
-        let mut line = Line::new();
-        line.byte(b'!');
-        line.byte(b' ');
-        line.number(stop.fault.layer() as u64);
-        line.byte(b' ');
-        line.number(stop.fault.number() as u64);
-        line.byte(b' ');
-        line.number(stop.command);
-        line.byte(b' ');
-        line.number(stop.place as u64);
-        line.byte(b'\n');
-        line
-    }
+/// A listing that is being written: a buffer, and how much of it is written.
+#[derive(Drop)]
+pub struct Listing<'a> {
+    bytes: &'a mut [u8],
+    written: usize,
+    ghost within: { written ≤ length bytes.now },
 }
 
-/// Puts a text at a place of a listing, whole or not at all. Answers where it ends.
-pub fn put(listing: &mut [u8], at: usize, text: &[u8]) -> Result<usize, ListFault>
-    ensures value { result ≡ ending listing.old at text.now }
-    ensures listing { listing.new ≡ placed listing.old at text.now }
-{
-    if at <= listing.len() && text.len() <= listing.len() - at {
-        let end = at + text.len();
-        listing[at..end].copy_from_slice(text);
-        Ok(end)
-    } else {
-        Err(ListFault::Full)
-    }
-}
+impl<'a> Listing<'a> {
+    ghost use Rattle.std.specs.Prelude.{◌≡◌, ◌≤◌, length};
+    ghost use Rattle.format.specs.Lines.{answer_line, placed, ending, whether_put, written_then};
 
-/// Puts the line of a command at a place of a listing, whole or not at all. Answers where it ends.
-pub fn list(listing: &mut [u8], at: usize, entry: &Entry) -> Result<usize, ListFault>
-    ensures value { result ≡ ending listing.old at (answer_line entry.now) }
-    ensures listing { listing.new ≡ placed listing.old at (answer_line entry.now) }
-{
-    let line = Line::of_answer(entry);
-    put(listing, at, line.as_slice())
+    /// A buffer in which nothing is written.
+    pub fn new(bytes: &'a mut [u8]) -> Listing<'a>
+        ensures buffer { result.bytes.ghost_name ≡ bytes.entry.ghost_name }
+        ensures bytes { result.bytes.now ≡ bytes.old }
+        ensures written { result.written ≡ 0 }
+    {
+        Listing { bytes, written: 0 }
+    }
+
+    /// How much is written.
+    pub fn written(&self) -> usize
+        ensures value { result ≡ self.now.written }
+        ensures within { result ≤ length self.now.bytes.now }
+    {
+        self.written
+    }
+
+    /// How many bytes the buffer has.
+    pub fn capacity(&self) -> usize
+        ensures { result ≡ length self.now.bytes.now }
+    {
+        self.bytes.len()
+    }
+
+    /// Puts a text after what is written, whole or not at all.
+    pub fn put(&mut self, text: &[u8]) -> Result<(), ListFault>
+        ensures value { result ≡ whether_put (ending self.old.bytes.now self.old.written text.now) }
+        ensures buffer { self.new.bytes.ghost_name ≡ self.old.bytes.ghost_name }
+        ensures bytes { self.new.bytes.now ≡ placed self.old.bytes.now self.old.written text.now }
+        ensures written { self.new.written ≡ written_then self.old.written (ending self.old.bytes.now self.old.written text.now) }
+    {
+        let start = self.written;
+        if text.len() > self.bytes.len() - start {
+            return Err(ListFault::Full);
+        }
+        let end = start + text.len();
+        self.bytes[start..end].copy_from_slice(text);
+        self.written = end;
+        Ok(())
+    }
+
+    /// Puts the line of a command after what is written, whole or not at all.
+    pub fn list(&mut self, entry: Entry) -> Result<(), ListFault>
+        ensures value { result ≡ whether_put (ending self.old.bytes.now self.old.written (answer_line entry)) }
+        ensures buffer { self.new.bytes.ghost_name ≡ self.old.bytes.ghost_name }
+        ensures bytes { self.new.bytes.now ≡ placed self.old.bytes.now self.old.written (answer_line entry) }
+        ensures written { self.new.written ≡ written_then self.old.written (ending self.old.bytes.now self.old.written (answer_line entry)) }
+    {
+        self.put(Line::from(entry).as_slice())
+    }
 }
 
 /// Puts the line of a stop at the start of a buffer, whole or not at all. Answers where it ends.
@@ -81,6 +82,7 @@ pub fn write_stop(buffer: &mut [u8], stop: &Stop) -> Result<usize, ListFault>
     ensures value { result ≡ ending buffer.old 0 (stop_line stop.now) }
     ensures buffer { buffer.new ≡ placed buffer.old 0 (stop_line stop.now) }
 {
-    let line = Line::of_stop(stop);
-    put(buffer, 0, line.as_slice())
+    let mut listing = Listing::new(buffer);
+    listing.put(Line::from(*stop).as_slice())?;
+    Ok(listing.written())
 }

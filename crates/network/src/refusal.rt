@@ -1,5 +1,7 @@
-ghost use Rattle.std.specs.Prelude.{◌≡◌};
+ghost use Rattle.std.specs.Prelude.{◌≡◌, ◌++◌, Some, codes, decimal};
 ghost use Rattle.network.specs.Checks.{number};
+
+use std::fmt;
 
 /// Why a call is refused: the first of its checks that fails.
 #[derive(Clone, Copy, PartialEq, Eq, Debug)]
@@ -34,11 +36,19 @@ pub enum Refusal {
     TargetMissed = 14,
 }
 
-impl Refusal {
-    /// The number of the check.
-    pub fn number(self) -> u8
-        ensures { result ≡ number self }
-    {
-        self as u8
+/// The number of the check.
+impl From<Refusal> for u8 {
+    ghost from_gives = { λ e k. k ≡ number e };
+
+    fn from(refusal: Refusal) -> u8 {
+        refusal as u8
+    }
+}
+
+impl fmt::Display for Refusal {
+    ghost output = { λ e. Some (codes "refused by check " ++ decimal (number e)) };
+
+    fn fmt<W: fmt::Write>(&self, f: &mut fmt::Formatter<W>) -> fmt::Result {
+        write!(f, "refused by check {}", u8::from(*self))
     }
 }

@@ -24,27 +24,10 @@ fn todo(call: Call) -> Made {
     }
 }
 
-fn print_call(rt: &HostRuntime, call: Call) -> io::Result<()> {
-    match call {
-        Call::Post(p, body) => print!(rt; "  post {body:016x} to host {p}"),
-        Call::Deliver(p, s) => print!(rt; "  host {p} takes from {s}"),
-        Call::Cut(p, s, point) => print!(rt;
-            "  host {p} takes from {s} and goes down at point {point}"
-        ),
-        Call::Release(p) => print!(rt; "  host {p} releases"),
-        Call::Crash(p) => print!(rt; "  host {p} crashes"),
-        Call::Recover => print!(rt; "  recover"),
-        Call::Show(p) => print!(rt; "  host {p} shows"),
-    }
-}
-
 fn print_answer(rt: &HostRuntime, answer: Result<u64, Refusal>) -> io::Result<()> {
     match answer {
         Ok(answer) => print!(rt; ": {answer}"),
-        Err(refusal) => {
-            let number = refusal.number();
-            print!(rt; ": refused by check {number}")
-        }
+        Err(refusal) => print!(rt; ": {refusal}"),
     }
 }
 
@@ -83,7 +66,8 @@ fn play<L: Logger, W: Workload>(
     }
     let mut down = HostSet::empty();
     for made in calls.iter() {
-        print_call(rt, made.call)?;
+        let call = made.call;
+        print!(rt; "  {call}")?;
         print_answer(rt, made.answer)?;
         down = down_after(down, made);
         print_up(rt, n, down)?;

@@ -1,5 +1,6 @@
 -- The first turn of a run, and the trace that the others make of it.
 use Rattle.std.proofs.Common.{◌≡◌, ℕ, List, [], ◌∷◌, Ok, Err, Result, sym, refl, ap, ◌∙◌, subst, arith}
+use Rattle.std.specs.Result.{IsErrAnd}
 use Rattle.workload.specs.Machine.{Machine}
 use Rattle.network.specs.declared.refusal.Refusal.{Refusal}
 use Rattle.network.specs.Checks.{checked, unless_refused}
@@ -13,10 +14,12 @@ use Rattle.calls.proofs.Playing.{made_all}
 use Rattle.calls.proofs.Laws.{Laws}
 use Rattle.format.specs.declared.fault.ListFault.{ListFault}
 use Rattle.format.specs.declared.fault.RunFault.{RunFault}
-use Rattle.script.specs.declared.run.Ran.{Ran}
+use Rattle.format.specs.declared.listing.Listing.{Listing}
+use Rattle.script.specs.declared.run.course.Course.{Course}
 use Rattle.script.specs.Course.{OpenListed, first_listed, open_value, open_listing, Reached, Ended, Finished, GoesOn, IfOpened, Runs}
 use Rattle.format.specs.Lines.{placed, ending}
-use Rattle.script.specs.Run.{Left, left, stopping, stops, open_line}
+use Rattle.script.specs.Run.{Left, stops, open_line, past_open}
+use Rattle.script.specs.Standing.{Begins, Stays, GoesTo, first_end, leaving}
 use Rattle.format.proofs.Endings.{placed_full}
 
 module _ {L S : Type 0} (log : logger.Ghosts L) (m : Machine S) (n f : ℕ) (s : List ℕ) (a₀ : System S L) (i₀ k₀ : ℕ) (xs₀ : List ℕ) (w₀ : ℕ)
@@ -33,10 +36,10 @@ module _ {L S : Type 0} (log : logger.Ghosts L) (m : Machine S) (n f : ℕ) (s :
 -- what a line that was put, or not, says of the answer
 first_put : (o : Result ℕ ListFault) (end : ℕ) → Ok end ≡ first_listed o → o ≡ Ok end
 first_put (Ok x) end e = cc
-first_put (Err f) end e = let z : ◌≡◌ {A = ℕ} 0 1 = cc in absurd (omega arith)
+first_put (Err f) end e = absurd (cc)
 
 first_not_put : (o : Result ℕ ListFault) (f : RunFault) → Err f ≡ first_listed o → (e : ListFault) × (o ≡ Err e) × (f ≡ RunFault.Listing e)
-first_not_put (Ok x) f h = let z : ◌≡◌ {A = ℕ} 0 1 = cc in absurd (omega arith)
+first_not_put (Ok x) f h = absurd (cc)
 first_not_put (Err e) f h = (e, refl, cc)
 
 module _ {L S : Type 0} (log : logger.Ghosts L) (laws : Laws log) (machine : ℕ → Machine S) (n f : ℕ) (s before : List ℕ) (a b : System S L) (ys : List ℕ) where
@@ -56,7 +59,7 @@ module _ {L S : Type 0} (log : logger.Ghosts L) (laws : Laws log) (machine : ℕ
   )
 
   -- the open is accepted and its line put
-  pub goes_on : (end : ℕ) (p : Left) → OpenListed log machine n f before a (Ok end) ys b → Finished log s b 5 2 ys end p → Runs log machine n f s before p
+  goes_on : (end : ℕ) (p : Left) → OpenListed log machine n f before a (Ok end) ys b → Finished log s b 5 2 ys end p → Runs log machine n f s before p
   goes_on end p O F = go (checked (open_checks n f)) refl (O.call.cluster, O.call.logger)
     where
       go : (x : Result (Unit {0}) Refusal) → checked (open_checks n f) ≡ x → Effect x O.answer → IfOpened log machine n f s before x p
@@ -78,14 +81,11 @@ module _ {L S : Type 0} (log : logger.Ghosts L) (laws : Laws log) (machine : ℕ
           }
       go (Err e) ok h =
           let v = O.value ∙ ap (λ (r : Answer). open_value r before) (sym (ap (λ (r : Answer × Cluster S). r.0) h.0)) in
-          let z : ◌≡◌ {A = ℕ} 0 1 = cc in
-          absurd (omega arith)
+          absurd (cc)
 
   -- the open is refused, or its line does not fit
-  pub stops_at_once : (fault : RunFault) (ran : Ran) → OpenListed log machine n f before a (Err fault) ys b → ran ≡ stopping 0 fault 1 0
-      → Runs log machine n f s before (left ys ran)
-  stops_at_once fault ran O is =
-      subst (λ (r : Ran). Runs log machine n f s before (left ys r)) (sym is) (go (checked (open_checks n f)) refl (O.call.cluster, O.call.logger))
+  stops_at_once : (fault : RunFault) → OpenListed log machine n f before a (Err fault) ys b → Runs log machine n f s before (stops ys 0 fault 1 0)
+  stops_at_once fault O = go (checked (open_checks n f)) refl (O.call.cluster, O.call.logger)
     where
       same : (e : RunFault) → ys ≡ before → fault ≡ e → stops ys 0 fault 1 0 ≡ stops before 0 e 1 0
       same e h k = cc
@@ -109,3 +109,29 @@ module _ {L S : Type 0} (log : logger.Ghosts L) (laws : Laws log) (machine : ℕ
           let v = O.value ∙ ap (λ (r : Answer). open_value r before) answer in
           let fault-is : fault ≡ RunFault.Cluster e = cc in
           same _ (O.listing ∙ ap (λ (r : Answer). open_listing r before) answer) fault-is
+
+-- the same from a course c, which has not begun, to d
+module _ {L S : Type 0} (log : logger.Ghosts L) (laws : Laws log) (machine : ℕ → Machine S) (n f : ℕ) (a b : System S L) (c d : Course) (l m : Listing) (begins : Begins c l) where
+  abbrev Open : Result (Unit {0}) RunFault → Type 0
+  Open r = OpenListed log machine n f l.bytes.now a (first_end r m) m.bytes.now b
+
+  pub opens : (p : Left) → Open (Ok tt) → GoesTo past_open c d → d.script ≡ c.script
+      → Finished log d.script.now b d.place d.number m.bytes.now m.written p → Runs log machine n f c.script.now l.bytes.now p
+  opens p O A same F =
+      goes_on log laws machine n f c.script.now l.bytes.now a b m.bytes.now m.written p O
+      (subst (λ (s : List ℕ). Finished log s b 5 2 m.bytes.now m.written p) (ap (λ x. x.now) same)
+      (subst (λ (k : ℕ). Finished log d.script.now b 5 k m.bytes.now m.written p) number
+      (subst (λ (i : ℕ). Finished log d.script.now b i d.number m.bytes.now m.written p) A.place F)))
+    where
+      number : d.number ≡ 2
+      number = omega (arith, A.number, begins.number)
+
+  pub opens_not : (f' : RunFault) (r : Result (Unit {0}) RunFault) → Open (Err f') → Stays c d l m → IsErrAnd r (λ e. e ≡ f')
+      → Runs log machine n f c.script.now l.bytes.now (leaving d m r)
+  opens_not f' (Ok u) O A h = absurd h
+  opens_not f' (Err e) O A h =
+      subst (λ (x : Left). Runs log machine n f c.script.now l.bytes.now x) stays
+      (stops_at_once log laws machine n f c.script.now l.bytes.now a b m.bytes.now f' O)
+    where
+      stays : stops m.bytes.now 0 f' 1 0 ≡ leaving d m (Err e)
+      stays = let w = A.written ∙ begins.written in let k = A.number ∙ begins.number in let i = A.place ∙ begins.place in cc

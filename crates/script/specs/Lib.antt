@@ -3,3 +3,4 @@ pub mod Examples
 pub mod Run
 pub mod Course
 pub mod Choice
+pub mod Standing

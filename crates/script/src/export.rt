@@ -9,10 +9,7 @@ fn stop_number(stop: Option<Stop>) -> u64
     ensures value { result ≡ stop_number stop }
     ensures most { result ≤ 20 }
 {
-    match stop {
-        None => 0,
-        Some(stop) => stop.fault.number() as u64,
-    }
+    stop.map_or(0, |stop| u8::from(stop.fault).into())
 }
 
 /// Plays a script into a listing, for C. The low 32 bits of the answer say how many bytes of the listing are written,

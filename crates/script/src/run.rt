@@ -5,11 +5,11 @@ mod course;
 mod turn;
 
 pub use choice::{MOST, ends_by_itself, play};
-pub use course::play_on;
+pub use turn::play_on;
 
 /// What a run leaves besides the listing: how many bytes of it are written, and the stop, if the run did not come to
 /// the script's end.
-#[derive(Clone, Copy)]
+#[derive(Clone, Copy, PartialEq, Eq, Debug)]
 pub struct Ran {
     pub written: usize,
     pub stop: Option<Stop>,

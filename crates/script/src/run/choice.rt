@@ -2,12 +2,14 @@ ghost use Rattle.std.specs.Prelude.{◌≡◌, ◌≤◌, length};
 ghost use Rattle.script.specs.Choice.{RunsChosen, RunsRead};
 ghost use Rattle.script.specs.Course.{Runs};
 ghost use Rattle.script.specs.Run.{left, first_read, whole, EndsByItself};
+ghost use Rattle.script.specs.Standing.{Begins, SameRun, leaving};
 
 use super::Ran;
-use super::course::{play_on, stopped};
+use super::course::Course;
 use cluster::cluster::Cluster;
 use format::command::{LoggerChoice, Opening, WorkloadChoice};
 use format::fault::{ReadFault, RunFault};
+use format::listing::Listing;
 use format::reader::Reader;
 use logger::logger::Logger;
 use loggers::family_based::FamilyBased;
@@ -19,50 +21,65 @@ use workload::spacing::Spacing;
 /// The most bytes that a script or a listing has.
 pub const MOST: usize = 65536;
 
-/// Plays on a new cluster over this logger and this workload.
-fn play_new<L: Logger + Drop, W: Workload + Drop>(
-    logger: L,
-    workload: W,
-    opening: Opening,
-    script: &[u8],
-    listing: &mut [u8],
-) -> Ran
-    ensures runs { Runs L.Logger W.Workload.machine opening.n opening.f script.now listing.old (left listing.new result) }
-    ensures within { result.written ≤ length listing.old }
-{
-    let mut cluster = Cluster::new(logger, workload);
-    play_on(&mut cluster, opening.n, opening.f, script, listing)
-}
+impl Course<'_> {
+    /// Reads the open of the script, if script and listing are not too long.
+    fn first(&self, listing: &Listing) -> Result<Opening, ReadFault>
+        requires { Begins self.now listing.now }
+        ensures { result ≡ first_read self.now.script.now listing.now.bytes.now }
+    {
+        if self.script.len() > MOST || listing.capacity() > MOST {
+            return Err(ReadFault::TooLong);
+        }
+        Reader::new(self.script, self.place).open()
+    }
 
-/// Plays with the logger and the workload that the open asks for.
-fn play_chosen(opening: Opening, script: &[u8], listing: &mut [u8]) -> Ran
-    ensures runs { RunsChosen opening.logger opening.workload opening.n opening.f script.now listing.old (left listing.new result) }
-    ensures within { result.written ≤ length listing.old }
-{
-    match (opening.logger, opening.workload) {
-        (LoggerChoice::Pessimistic, WorkloadChoice::Ledger) => {
-            play_new(Pessimistic::new(), Ledger::new(), opening, script, listing)
-        }
-        (LoggerChoice::Pessimistic, WorkloadChoice::Spacing) => {
-            play_new(Pessimistic::new(), Spacing::new(), opening, script, listing)
-        }
-        (LoggerChoice::FamilyBased, WorkloadChoice::Ledger) => {
-            play_new(FamilyBased::new(), Ledger::new(), opening, script, listing)
-        }
-        (LoggerChoice::FamilyBased, WorkloadChoice::Spacing) => {
-            play_new(FamilyBased::new(), Spacing::new(), opening, script, listing)
+    /// Plays on a new cluster over this logger and this workload.
+    fn play_new<L: Logger + Drop, W: Workload + Drop>(
+        &mut self,
+        logger: L,
+        workload: W,
+        opening: Opening,
+        listing: &mut Listing,
+    ) -> Result<(), RunFault>
+        requires { Begins self.old listing.old }
+        ensures runs { Runs L.Logger W.Workload.machine opening.n opening.f self.old.script.now listing.old.bytes.now (leaving self.new listing.new result) }
+        ensures same { SameRun self.old self.new listing.old listing.new }
+    {
+        let mut cluster = Cluster::new(logger, workload);
+        self.play_on(&mut cluster, opening.n, opening.f, listing)
+    }
+
+    /// Plays with the logger and the workload that the open asks for.
+    fn play_chosen(&mut self, opening: Opening, listing: &mut Listing) -> Result<(), RunFault>
+        requires { Begins self.old listing.old }
+        ensures runs { RunsChosen opening.logger opening.workload opening.n opening.f self.old.script.now listing.old.bytes.now (leaving self.new listing.new result) }
+        ensures same { SameRun self.old self.new listing.old listing.new }
+    {
+        match (opening.logger, opening.workload) {
+            (LoggerChoice::Pessimistic, WorkloadChoice::Ledger) => {
+                self.play_new(Pessimistic::new(), Ledger::new(), opening, listing)
+            }
+            (LoggerChoice::Pessimistic, WorkloadChoice::Spacing) => {
+                self.play_new(Pessimistic::new(), Spacing::new(), opening, listing)
+            }
+            (LoggerChoice::FamilyBased, WorkloadChoice::Ledger) => {
+                self.play_new(FamilyBased::new(), Ledger::new(), opening, listing)
+            }
+            (LoggerChoice::FamilyBased, WorkloadChoice::Spacing) => {
+                self.play_new(FamilyBased::new(), Spacing::new(), opening, listing)
+            }
         }
     }
-}
 
-/// Reads the open of a script, if script and listing are not too long.
-fn first(script: &[u8], listing: &[u8]) -> Result<Opening, ReadFault>
-    ensures { result ≡ first_read script.now listing.now }
-{
-    if script.len() > MOST || listing.len() > MOST {
-        return Err(ReadFault::TooLong);
+    /// Reads the open, and plays the script on a cluster of its own.
+    fn play(&mut self, listing: &mut Listing) -> Result<(), RunFault>
+        requires { Begins self.old listing.old }
+        ensures runs { RunsRead (first_read self.old.script.now listing.old.bytes.now) self.old.script.now listing.old.bytes.now (leaving self.new listing.new result) }
+        ensures same { SameRun self.old self.new listing.old listing.new }
+    {
+        let opening = self.first(listing)?;
+        self.play_chosen(opening, listing)
     }
-    Reader::new(script, 0).open()
 }
 
 /// Plays a script on a cluster of its own, and lists its commands.
@@ -71,10 +88,10 @@ pub fn play(script: &[u8], listing: &mut [u8]) -> Ran
     ensures guaranteed { RunsRead (first_read script.now listing.old) script.now listing.old (left listing.new result) }
     ensures within { result.written ≤ length listing.old }
 {
-    match first(script, listing) {
-        Ok(opening) => play_chosen(opening, script, listing),
-        Err(fault) => stopped(0, RunFault::Reader(fault), 1, 0),
-    }
+    let mut course = Course::new(script);
+    let mut listing = Listing::new(listing);
+    let ended = course.play(&mut listing);
+    course.ran(&listing, ended)
 }
 
 /// A run ends by itself, whatever the script.
