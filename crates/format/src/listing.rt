@@ -57,7 +57,7 @@ impl<'a> Listing<'a> {
         ensures written { self.new.written ≡ written_then self.old.written (ending self.old.bytes.now self.old.written text.now) }
     {
         let start = self.written;
-        if text.len() > self.bytes.len() - start {
+        if text.len() > self.capacity() - start {
             return Err(ListFault::Full);
         }
         let end = start + text.len();

@@ -34,6 +34,7 @@ impl<'s> Course<'s> {
         ensures value { left listing.now.bytes.now result ≡ leaving self.now listing.now ended }
         ensures within { result.written ≤ length listing.now.bytes.now }
     {
+        // copied, since of a closure over `self` it is not known what it gives
         let command = self.number;
         let place = self.place;
         Ran {
