@@ -24,8 +24,7 @@ fn hosts() -> HostCount
 fn print_set(rt: &HostRuntime, set: HostSet) -> io::Result<()> {
     for h in hosts().hosts() {
         if set.contains(h) {
-            let host = h.number();
-            print!(rt; " {host}")?;
+            print!(rt; " {h}")?;
         }
     }
     println!(rt; "")
@@ -34,11 +33,9 @@ fn print_set(rt: &HostRuntime, set: HostSet) -> io::Result<()> {
 /// What host h holds of the first receipt of host q.
 fn print_held(rt: &HostRuntime, log: &FamilyBased, h: Host, q: Host) -> io::Result<()> {
     if let Some(Entry { source, holders }) = log.known_holders(h, q, SeqNo::new(1)) {
-        let holder = h.number();
-        let receiver = q.number();
         let sender = source.sender;
         let ssn = source.ssn;
-        print!(rt; "  host {holder} holds ({receiver}, 1, {sender}, {ssn}), known to be held by")?;
+        print!(rt; "  host {h} holds ({q}, 1, {sender}, {ssn}), known to be held by")?;
         print_set(rt, holders)?;
     }
     Ok(())
@@ -68,19 +65,17 @@ fn note_first(log: &mut FamilyBased, p: Host, s: Sender) {
 fn pass_on(rt: &HostRuntime, log: &mut FamilyBased, s: Host, p: Host) -> io::Result<()> {
     log.carry(s, p);
     note_first(log, p, Sender::from(s));
-    let (from, to) = (s.number(), p.number());
-    println!(rt; "Host {to} takes the message from host {from}.")?;
+    println!(rt; "Host {p} takes the message from host {s}.")?;
     print_all(rt, log)
 }
 
 fn print_findable(rt: &HostRuntime, log: &FamilyBased) -> io::Result<()> {
     for q in hosts().hosts() {
-        let receiver = q.number();
         match log.find(q, SeqNo::new(1)) {
             Some((sender, ssn)) => println!(rt;
-                "  receipt 1 of host {receiver} is found: message {ssn} from {sender}"
+                "  receipt 1 of host {q} is found: message {ssn} from {sender}"
             )?,
-            None => println!(rt; "  receipt 1 of host {receiver} is not found")?,
+            None => println!(rt; "  receipt 1 of host {q} is not found")?,
         }
     }
     Ok(())

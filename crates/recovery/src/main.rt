@@ -10,6 +10,7 @@ use loggers::family_based::FamilyBased;
 use loggers::pessimistic::Pessimistic;
 use network::refusal::Refusal;
 use std::io;
+use workload::host_count::HostCount;
 use workload::ledger::Ledger;
 use workload::ledger::order::Order;
 use workload::spacing::Spacing;
@@ -33,21 +34,20 @@ fn print_answer(rt: &HostRuntime, answer: Result<u64, Refusal>) -> io::Result<()
 
 /// Who is down after a call, as whoever made it can tell.
 fn down_after(down: HostSet, made: &Made) -> HostSet {
-    if made.answer.is_err() {
-        return down;
-    }
-    match made.call {
-        Call::Crash(p) | Call::Cut(p, _, _) if p < 8 => down.insert(p),
-        Call::Recover => HostSet::empty(),
+    match (made.call, made.answer) {
+        (Call::Crash(p) | Call::Cut(p, _, _), Ok(_)) => HostCount::MOST
+            .host(p)
+            .map_or(down, |host| down.insert(host)),
+        (Call::Recover, Ok(_)) => HostSet::empty(),
         _ => down,
     }
 }
 
 fn print_up(rt: &HostRuntime, n: u8, down: HostSet) -> io::Result<()> {
     print!(rt; " (up:")?;
-    for p in 0..n {
-        if p < 8 && !down.contains(p) {
-            print!(rt; " {p}")?;
+    for host in HostCount::MOST.hosts() {
+        if host.number() < n && !down.contains(host) {
+            print!(rt; " {host}")?;
         }
     }
     println!(rt; ")")

@@ -1,5 +1,6 @@
-ghost use Rattle.std.specs.Prelude.{◌≡◌, ℕ, ◌<◌};
+ghost use Rattle.std.specs.Prelude.{◌≡◌, ℕ, ◌<◌, Some, decimal};
 
+use std::fmt;
 use std::marker::Model;
 
 /// The number of a host. There are never more than eight, and they are numbered from 0.
@@ -37,5 +38,14 @@ impl Host {
         ensures low { result < 8 }
     {
         self.number() as usize
+    }
+}
+
+impl fmt::Display for Host {
+    ghost output = { λ h. Some (decimal h) };
+
+    fn fmt<W: fmt::Write>(&self, f: &mut fmt::Formatter<W>) -> fmt::Result {
+        let number = self.number();
+        write!(f, "{number}")
     }
 }
