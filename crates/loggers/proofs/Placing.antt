@@ -6,10 +6,7 @@ use Rattle.std.specs.Borrow.{MutBor}
 use Rattle.std.proofs.lemmas.List.{get_or-set_same, get_or-set_other, get_or_default}
 use Rattle.std.proofs.lemmas.Bool.Decides.{nat_tests}
 use Rattle.std.proofs.lemmas.Bool.{cases_eq}
-use Rattle.loggers.specs.Places.{place, has_place, at, with_place, Leaves, Changed, EachChanged}
-
-place_low : (q r : ℕ) → has_place q r ≡ true → place q r < 512
-place_low q r h = let a : q < 8 = grind (arith, nat_tests) in let b : r < 65 = grind (arith, nat_tests) in omega arith
+use Rattle.loggers.specs.Places.{place, has_place, at, with_place, Leaves, Changed}
 
 -- receipt number r of host q, of the 512, has been given x
 module _ {A : Type 0} (xs : List (Option A)) (x : A) (q r i : ℕ) (is : i ≡ place q r) (fits : i < length xs) (has : has_place q r ≡ true) where
@@ -55,13 +52,6 @@ module _ {F A : Type 0} (g : Shared F (MutBor A × Unit {0}) (Unit {0} × (MutBo
   -- which is empty
   pub passed_empty : (xs ys : List (Option A)) (i : ℕ) (d : Option A) → Passed xs ys i → i < length ys → get_or ys i d ≡ None → Passed xs (set ys i (get_or ys i d)) (i + 1)
   passed_empty xs ys i d p l is = rw is (passed_more xs ys i None p l (rw (get_or_default ys i None d l, is) refl))
-
-  pub passed_all : (xs ys : List (Option A)) (i : ℕ) → Passed xs ys i → 512 ≤ i → EachChanged g f xs ys
-  passed_all xs ys i p l q r = go (has_place q r) refl
-    where
-      go : (t : Bool) → has_place q r ≡ t → Changed g f (cond t (get_or xs (place q r) None) None) (cond t (get_or ys (place q r) None) None)
-      go true e = let low = place_low q r e in p.done (place q r) (omega arith)
-      go false e = refl
 
 -- A loop that changes each element by a rule.
 module _ {A B : Type 0} (see : A → B) (none : A) (rule : ℕ → B → B) where
