@@ -52,12 +52,12 @@ rejoin_none n down = fun_ext (λ h. ap (λ (o : Option Holding). cond (down h) (
 
 -- a rule was followed wherever somebody holds something, and makes nothing of nothing
 pub table_changed :
-    {F : Type 0} (g : Shared F (MutBor Row × Unit {0}) (Unit {0} × (MutBor Row × Unit {0}))) (f : F) (rule : Holdings → Holdings) (xs ys : List (Option Row))
+    {F : Type 0} {g : Shared F (MutBor Row × Unit {0}) (Unit {0} × (MutBor Row × Unit {0}))} {f : F} (rule : Holdings → Holdings) (xs ys : List (Option Row))
     → rule (row None) ≡ row None
     → ((x y : Row) → Leaves g f x y → holdings y ≡ rule (holdings x))
     → EachChanged g f xs ys
     → (λ q r. row (at ys None q r)) ≡ everywhere rule (λ q r. row (at xs None q r))
-table_changed g f rule xs ys nothing follows all = fun_ext (λ q. fun_ext (λ r. go (at xs None q r) (at ys None q r) (all q r)))
+table_changed {g = g} {f = f} rule xs ys nothing follows all = fun_ext (λ q. fun_ext (λ r. go (at xs None q r) (at ys None q r) (all q r)))
   where
     go : (o w : Option Row) → Changed g f o w → row w ≡ rule (row o)
     go None w e = ap row e ∙ sym nothing
