@@ -1,7 +1,6 @@
 -- What writes to the program's table do to what it stands for.
 use Rattle.std.proofs.Common.{◌≡◌, ℕ, zero, suc, ◌<◌, ◌≤◌, Bool, true, false, cond, ◌&&◌, eqb, leb, List, length, get_or, replicate, set, Some, None, Option, sym, refl, ap, ◌∙◌, unwrap_or, arith}
 use mathlib.Core.Path.{fun_ext}
-use denote.Param.Members.{Shared}
 use Rattle.std.specs.Borrow.{MutBor}
 use Rattle.std.proofs.lemmas.List.{get_or-set_same, get_or-set_other, get_or_default}
 use Rattle.std.proofs.lemmas.Bool.{cond-true, eqb-true}
@@ -52,14 +51,14 @@ rejoin_none n down = fun_ext (λ h. ap (λ (o : Option Holding). cond (down h) (
 
 -- a rule was followed wherever somebody holds something, and makes nothing of nothing
 pub table_changed :
-    {F : Type 0} (g : Shared F (MutBor Row × Unit {0}) (Unit {0} × (MutBor Row × Unit {0}))) (f : F) (rule : Holdings → Holdings) (xs ys : List (Option Row))
+    {post : MutBor Row → Unit {0} → MutBor Row → Type 0} (rule : Holdings → Holdings) (xs ys : List (Option Row))
     → rule (row None) ≡ row None
-    → ((x y : Row) → Leaves g f x y → holdings y ≡ rule (holdings x))
-    → EachChanged g f xs ys
+    → ((x y : Row) → Leaves post x y → holdings y ≡ rule (holdings x))
+    → EachChanged post xs ys
     → (λ q r. row (at ys None q r)) ≡ everywhere rule (λ q r. row (at xs None q r))
-table_changed g f rule xs ys nothing follows all = fun_ext (λ q. fun_ext (λ r. go (at xs None q r) (at ys None q r) (all q r)))
+table_changed {post = post} rule xs ys nothing follows all = fun_ext (λ q. fun_ext (λ r. go (at xs None q r) (at ys None q r) (all q r)))
   where
-    go : (o w : Option Row) → Changed g f o w → row w ≡ rule (row o)
+    go : (o w : Option Row) → Changed post o w → row w ≡ rule (row o)
     go None w e = ap row e ∙ sym nothing
     go (Some x) w e = ap row e.1 ∙ follows x e.0 e.2
 

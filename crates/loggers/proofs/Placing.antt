@@ -1,15 +1,11 @@
 -- Tables of receipts, and loops over lists.
 use Rattle.std.proofs.Common.{◌≡◌, ℕ, zero, suc, ◌+◌, ◌<◌, ◌≤◌, Bool, true, false, cond, ltb, List, length, get_or, set, replicate, Some, None, Option, ◌≢◌, ⊎_elim, refl, ◌∙◌, arith}
 use mathlib.Core.Path.{fun_ext}
-use denote.Param.Members.{Shared}
 use Rattle.std.specs.Borrow.{MutBor}
 use Rattle.std.proofs.lemmas.List.{get_or-set_same, get_or-set_other, get_or_default}
 use Rattle.std.proofs.lemmas.Bool.Decides.{nat_tests}
 use Rattle.std.proofs.lemmas.Bool.{cases_eq}
-use Rattle.loggers.specs.Places.{place, has_place, at, with_place, Leaves, Changed, EachChanged}
-
-place_low : (q r : ℕ) → has_place q r ≡ true → place q r < 512
-place_low q r h = let a : q < 8 = grind (arith, nat_tests) in let b : r < 65 = grind (arith, nat_tests) in omega arith
+use Rattle.loggers.specs.Places.{place, has_place, at, with_place, Leaves, Changed}
 
 -- receipt number r of host q, of the 512, has been given x
 module _ {A : Type 0} (xs : List (Option A)) (x : A) (q r i : ℕ) (is : i ≡ place q r) (fits : i < length xs) (has : has_place q r ≡ true) where
@@ -32,36 +28,29 @@ at_empty {A} q r = go (has_place q r)
     go false = refl
 
 -- A loop that changes what has a place.
-module _ {F A : Type 0} (g : Shared F (MutBor A × Unit {0}) (Unit {0} × (MutBor A × Unit {0}))) (f : F) where
+module _ {A : Type 0} (post : MutBor A → Unit {0} → MutBor A → Type 0) where
   -- the places below i of xs have been changed, and make ys
   pub record Passed (xs ys : List (Option A)) (i : ℕ) : Type 0 where
-    pub done : (k : ℕ) → k < i → Changed g f (get_or xs k None) (get_or ys k None)
+    pub done : (k : ℕ) → k < i → Changed post (get_or xs k None) (get_or ys k None)
     pub rest : (k : ℕ) → i ≤ k → get_or ys k None ≡ get_or xs k None
 
   -- one place more
-  passed_more : (xs ys : List (Option A)) (i : ℕ) (o : Option A) → Passed xs ys i → i < length ys → Changed g f (get_or ys i None) o → Passed xs (set ys i o) (i + 1)
+  passed_more : (xs ys : List (Option A)) (i : ℕ) (o : Option A) → Passed xs ys i → i < length ys → Changed post (get_or ys i None) o → Passed xs (set ys i o) (i + 1)
   passed_more xs ys i o p l e = record { done = λ k h. ⊎_elim (here k) (there k h) (cases_eq k i); rest = λ k h. get_or-set_other ys i k o None (omega arith) ∙ p.rest k (omega arith) }
     where
-      here : (k : ℕ) → k ≡ i → Changed g f (get_or xs k None) (get_or (set ys i o) k None)
+      here : (k : ℕ) → k ≡ i → Changed post (get_or xs k None) (get_or (set ys i o) k None)
       here k is = rw (is, ← p.rest i (omega arith), get_or-set_same ys i o None l) e
 
-      there : (k : ℕ) → k < i + 1 → k ≢ i → Changed g f (get_or xs k None) (get_or (set ys i o) k None)
+      there : (k : ℕ) → k < i + 1 → k ≢ i → Changed post (get_or xs k None) (get_or (set ys i o) k None)
       there k h ne = rw (get_or-set_other ys i k o None ne) (p.done k (omega arith))
 
   -- which had x, and has y now
-  pub passed_full : (xs ys : List (Option A)) (i : ℕ) (d : Option A) (x y : A) → Passed xs ys i → i < length ys → get_or ys i d ≡ Some x → Leaves g f x y → Passed xs (set ys i (Some y)) (i + 1)
+  pub passed_full : (xs ys : List (Option A)) (i : ℕ) (d : Option A) (x y : A) → Passed xs ys i → i < length ys → get_or ys i d ≡ Some x → Leaves post x y → Passed xs (set ys i (Some y)) (i + 1)
   passed_full xs ys i d x y p l is e = passed_more xs ys i (Some y) p l (rw (get_or_default ys i None d l, is) (y, refl, e))
 
   -- which is empty
   pub passed_empty : (xs ys : List (Option A)) (i : ℕ) (d : Option A) → Passed xs ys i → i < length ys → get_or ys i d ≡ None → Passed xs (set ys i (get_or ys i d)) (i + 1)
   passed_empty xs ys i d p l is = rw is (passed_more xs ys i None p l (rw (get_or_default ys i None d l, is) refl))
-
-  pub passed_all : (xs ys : List (Option A)) (i : ℕ) → Passed xs ys i → 512 ≤ i → EachChanged g f xs ys
-  passed_all xs ys i p l q r = go (has_place q r) refl
-    where
-      go : (t : Bool) → has_place q r ≡ t → Changed g f (cond t (get_or xs (place q r) None) None) (cond t (get_or ys (place q r) None) None)
-      go true e = let low = place_low q r e in p.done (place q r) (omega arith)
-      go false e = refl
 
 -- A loop that changes each element by a rule.
 module _ {A B : Type 0} (see : A → B) (none : A) (rule : ℕ → B → B) where

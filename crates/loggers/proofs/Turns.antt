@@ -10,14 +10,14 @@ use Rattle.std.proofs.lemmas.List.Sums.{fold_push}
 
 -- a fold over hosts, each of whose turns is seen to be `step`
 pub folded :
-    {B : Type 0} (step : B → ℕ → B) {S F C : Type 0} {steps : S → Option ℕ → S → Type 0} (g : Mut F (C × (ℕ × Unit {0})) C) (see : C → B) (f : F)
+    {B : Type 0} (step : B → ℕ → B) {S F C : Type 0} {steps : S → Option ℕ → S → Type 0} {g : Mut F (C × (ℕ × Unit {0})) C} (see : C → B) {f : F}
     → ((a : C) (x : ℕ) (b : C) (f' : F) → Called g f (a, (x, tt)) b f' → (see b ≡ step (see a) x) × (f' ≡ f))
-    → (s : S) (all : List ℕ) (init r : C) (first : B)
+    → {s : S} {all : List ℕ} {init r : C} {first : B}
     → see init ≡ first
     → FoldsItems steps g s f init r
     → YieldsList steps (λ h. h) s all
     → see r ≡ fold step first all
-folded {B} step {steps = steps} g see f called s all init r first base ran yields =
+folded {B} step {steps = steps} {g = g} see {f = f} called {s = s} {all = all} {init = init} {r = r} {first = first} base ran yields =
     fold_over steps (λ h. h) g (λ ys c. see c ≡ fold step first ys) f
     (λ ys a x b f' j k. let w = called a x b f' k in (w.0 ∙ ap (λ (o : B). step o x) j ∙ sym (fold_push step first ys x), w.1))
     s all init r yields.runs base ran

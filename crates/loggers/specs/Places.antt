@@ -1,7 +1,6 @@
 -- A table with a place for each of the 512 receipts that a determinant can name.
 use Rattle.std.specs.Prelude.{◌≡◌, ℕ, ◌+◌, ◌-◌, ◌*◌, Bool, cond, ◌&&◌, ◌==◌, List, Some, None, Option, nat_lt, slice_index_or}
 use Rattle.std.specs.Borrow.{MutBor}
-use denote.Param.Members.{Shared}
 
 -- where receipt number r of host q stands
 abbrev pub place : ℕ → ℕ → ℕ
@@ -19,19 +18,19 @@ at xs none q r = cond (has_place q r) (slice_index_or xs (place q r) none) none
 abbrev pub with_place : {A : Type 0} → (ℕ → ℕ → Option A) → ℕ → ℕ → A → ℕ → ℕ → Option A
 with_place t q r x k j = cond (k == q && j == r) (Some x) (t k j)
 
--- a call of f at a `&mut` to x may leave y there
-pub record Leaves {F A : Type 0} (g : Shared F (MutBor A × Unit {0}) (Unit {0} × (MutBor A × Unit {0}))) (f : F) (x y : A) : Type 0 where
+-- a call at a `&mut` to x may leave y there, where `post` says of a call what it may answer and leave
+pub record Leaves {A : Type 0} (post : MutBor A → Unit {0} → MutBor A → Type 0) (x y : A) : Type 0 where
   pub shown : MutBor A
   pub shows : shown.now ≡ x
   pub left : MutBor A
-  pub met : g.post f (shown, tt) (tt, (left, tt))
+  pub met : post shown tt left
   pub leaves : left.now ≡ y
 
--- what was in a place, and what a call of f left of it; an empty place stays so
-abbrev pub Changed : {F A : Type 0} → Shared F (MutBor A × Unit {0}) (Unit {0} × (MutBor A × Unit {0})) → F → Option A → Option A → Type 0
-Changed g f None o = o ≡ None
-Changed {A = A} g f (Some x) o = (y : A) × (o ≡ Some y) × Leaves g f x y
+-- what was in a place, and what a call left of it; an empty place stays so
+abbrev pub Changed : {A : Type 0} → (MutBor A → Unit {0} → MutBor A → Type 0) → Option A → Option A → Type 0
+Changed post None o = o ≡ None
+Changed {A = A} post (Some x) o = (y : A) × (o ≡ Some y) × Leaves post x y
 
 -- the same of each place of two tables
-abbrev pub EachChanged : {F A : Type 0} → Shared F (MutBor A × Unit {0}) (Unit {0} × (MutBor A × Unit {0})) → F → List (Option A) → List (Option A) → Type 0
-EachChanged g f xs ys = (q r : ℕ) → Changed g f (at xs None q r) (at ys None q r)
+abbrev pub EachChanged : {A : Type 0} → (MutBor A → Unit {0} → MutBor A → Type 0) → List (Option A) → List (Option A) → Type 0
+EachChanged post xs ys = (q r : ℕ) → Changed post (at xs None q r) (at ys None q r)

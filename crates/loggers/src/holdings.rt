@@ -82,7 +82,8 @@ fn handed(own: Option<Entry>, e: &Entry, all: HostSet, h: Host) -> Option<Entry>
     }
 }
 
-// Each host of `all` that e did not know gets the determinant of e, and p knows them all.
+// Each host of `all` that e did not know gets the determinant of e, and p, which held e, knows them all.
+// A struct for e and all would be made for this one call.
 fn hand_out(held: &mut Holdings, p: Host, e: &Entry, all: HostSet)
     ensures { holdings held.new ≡ hand_out p (holding e.now) (members all) (holdings held.old) }
 {
@@ -103,6 +104,7 @@ pub fn spread_at(held: &mut Holdings, hosts: &Members, p: Host)
     }
 }
 
+// A match, since `zip`, `map` and two times `or` would say it no plainer.
 fn merge(a: Option<Entry>, b: Option<Entry>) -> Option<Entry>
     ensures { seen result ≡ merge (seen a) (seen b) }
 {

@@ -46,7 +46,7 @@ impl<T: Copy> Places<T> {
     /// Changes by a rule what stands in each place that is not empty.
     pub fn change<F: Fn(&mut T)>(&mut self, rule: F)
         requires { F.IsAlwaysCallable rule }
-        ensures { EachChanged F.Fn rule self.old.places self.new.places }
+        ensures { EachChanged (F.post rule) self.old.places self.new.places }
     {
         // After a `flatten` a proof would know nothing of what the loop wrote.
         for place in self.places.iter_mut() {

@@ -16,7 +16,7 @@ returns c =
     let held = holdings c.args.held.now in
     let one = λ (o : Option Holding) (h : ℕ). merge o (held h) in
     let hosts = YieldsList-from_first (λ h. h) (λ h. h) (range_with_len 0 m.n) (c.filter.ensures.source ∙ c.hosts.ensures.hosts) in
-    folded one _ seen _ (λ a h b f' k. (grind (arith, common_steps, holdings_read), search rules)) _ _ _ _ _ refl c.fold.ensures.ran
+    folded one seen (λ a h b f' k. (grind (arith, common_steps, holdings_read), search rules)) refl c.fold.ensures.ran
     (YieldsList-from_filter _ (λ h. not (down h)) hosts c.filter.ensures.closure (λ x b q k. search rules))
     ∙ fold_up one down _ (range_with_len 0 m.n)
     ∙ by_turns (λ o h. cond (down h) o (one o h)) (gather down held) (λ n. rw add-one) m.n

@@ -7,5 +7,5 @@ pub returns : goal.returns
 returns c =
     let l = c.args.self.now in
     let d = c.insert-self.ensures in
-    let t = table_changed _ _ (lose_at c.args.p) l.table.places c.change.new.self.places (lose_none c.args.p) (λ x y w. search rules) c.change.ensures in
+    let t = table_changed (lose_at c.args.p) l.table.places c.change.new.self.places (lose_none c.args.p) (λ x y w. search rules) c.change.ensures in
     cc

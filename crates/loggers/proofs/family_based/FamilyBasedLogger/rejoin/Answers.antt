@@ -8,5 +8,5 @@ pub returns : goal.returns
 returns c =
     let l = c.args.self.now in
     let d = c.empty-self.ensures in
-    let t = table_changed _ _ (rejoin_at l.hosts.n (members l.hosts.down)) l.table.places c.change.new.self.places (rejoin_none l.hosts.n (members l.hosts.down)) (λ x y w. search rules) c.change.ensures in
+    let t = table_changed (rejoin_at l.hosts.n (members l.hosts.down)) l.table.places c.change.new.self.places (rejoin_none l.hosts.n (members l.hosts.down)) (λ x y w. search rules) c.change.ensures in
     cc

@@ -8,4 +8,4 @@ use Rattle.loggers.proofs.family_based.FamilyBasedLogger.spread.Goals as goal
 pub returns : goal.returns
 returns c =
     let l = c.args.self.now in
-    ap (with_holdings (state l)) (table_changed _ _ (spread_at l.hosts.n l.hosts.f (members l.hosts.down) c.args.p) l.table.places c.change.new.self.places refl (λ x y w. search rules) c.change.ensures)
+    ap (with_holdings (state l)) (table_changed (spread_at l.hosts.n l.hosts.f (members l.hosts.down) c.args.p) l.table.places c.change.new.self.places refl (λ x y w. search rules) c.change.ensures)

@@ -10,5 +10,5 @@ pub returns : goal.returns
 returns c =
     let m = c.args.self.now in
     let one = join_one m.f (members m.down) in
-    folded one _ members _ (λ a h b f' k. search rules) _ (range_with_len 0 m.n) _ _ _ refl c.fold.ensures.ran (YieldsList-from_first (λ h. h) (λ h. h) _ c.hosts.ensures.hosts)
+    folded one members (λ a h b f' k. search rules) refl c.fold.ensures.ran (YieldsList-from_first (λ h. h) (λ h. h) (range_with_len 0 m.n) c.hosts.ensures.hosts)
     ∙ by_turns one (join m.f (members m.down) (members c.args.known)) (λ n. rw add-one) m.n

@@ -9,6 +9,6 @@ loop-place-preserved g c =
     let ys = c.loop-place.place-items in
     let i = c.loop-place.place-index in
     elim c.match-place.branch [
-      | in-Some w ↦ rw w.place-items-is (passed_full g.F.Fn c.args.rule xs ys i _ w.in-Some.x _ c.loop-place.invariant (search rules) w.in-Some.is (record { shown = _; shows = refl; left = _; met = w.rule.ensures; leaves = refl }))
-      | in_default w ↦ rw w.place-items-is (passed_empty g.F.Fn c.args.rule xs ys i _ c.loop-place.invariant (search rules) w.in_default.is)
+      | in-Some w ↦ rw w.place-items-is (passed_full _ xs ys i _ w.in-Some.x _ c.loop-place.invariant (search rules) w.in-Some.is (record { shown = _; shows = refl; left = _; met = w.rule.ensures; leaves = refl }))
+      | in_default w ↦ rw w.place-items-is (passed_empty _ xs ys i _ c.loop-place.invariant (search rules) w.in_default.is)
     ]
