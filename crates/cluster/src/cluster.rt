@@ -18,6 +18,7 @@ mod show;
 pub struct Cluster<L, W> {
     hosts: Hosts<W>,
     f: u8,
+    // A flag, and no `Option` around the rest: a cluster that is no longer whole keeps its hosts and who is down.
     whole: bool,
     down: HostSet,
     logger: L,

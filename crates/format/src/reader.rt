@@ -8,6 +8,7 @@ use crate::fault::ReadFault;
 pub const OPEN_LEN: usize = 5;
 
 /// A place in a script: what comes before it has been read.
+// Not the bytes that are left: a stop tells the place, and from those it would have to be counted back.
 #[derive(Clone, Copy)]
 pub struct Reader<'a> {
     script: &'a [u8],

@@ -81,8 +81,13 @@ fn a_down_host_is_a_known_holder(rt: HostRuntime) -> Result<(), Fail> {
     l.carry(Host::new(0), Host::new(1));
     l.lose(Host::new(0));
     l.spread(Host::new(1));
-    assert!(rt; l.known_holders(Host::new(2), Host::new(0), SeqNo::new(1)).is_none());
-    let e = l.known_holders(Host::new(1), Host::new(0), SeqNo::new(1)).ok_or("host 1 holds it")?;
+    assert!(rt;
+        l.known_holders(Host::new(2), Host::new(0), SeqNo::new(1))
+            .is_none()
+    );
+    let e = l
+        .known_holders(Host::new(1), Host::new(0), SeqNo::new(1))
+        .ok_or("host 1 holds it")?;
     assert_eq!(rt; e.source.sender, 8);
     assert_eq!(rt; e.holders.len(), 2);
     assert!(rt; e.holders.contains(Host::new(0)));

@@ -16,6 +16,6 @@ pub blank_map :
     → ◌≡◌ {A = ℕ → B} (λ h. get_or (map view xs) h none) (λ h. none)
 blank_map view none [] all = fun_ext (λ h. refl)
 blank_map view none (x ∷ xs) all = fun_ext (λ h. elim (cases_lt h (length (x ∷ xs))) [
-    | inl l ↦ (get_or-map view (x ∷ xs) h x none l ∙ all h x l)
-    | inr l ↦ get_or_past (map view (x ∷ xs)) h none (rw (length-map (x ∷ xs) view) l)
-  ])
+  | inl l ↦ (get_or-map view (x ∷ xs) h x none l ∙ all h x l)
+  | inr l ↦ get_or_past (map view (x ∷ xs)) h none (rw (length-map (x ∷ xs) view) l)
+])

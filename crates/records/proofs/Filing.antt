@@ -1,5 +1,5 @@
 -- What a record keeps beside its lists stays true as they grow.
-use Rattle.std.proofs.Common.{◌≡◌, ℕ, suc, ◌+◌, ◌<◌, ◌≤◌, cond, eqb, ltb, ◌⊎◌, List, [], ◌∷◌, ◌++◌, length, get_or, set, replicate, Some, None, Option, sym, refl, ap, ◌∙◌, subst, inl, inr, arith, length-append}
+use Rattle.std.proofs.Common.{◌≡◌, ℕ, suc, ◌+◌, ◌<◌, ◌≤◌, cond, eqb, ltb, ◌⊎◌, List, [], ◌∷◌, ◌++◌, length, get_or, replicate, Some, None, Option, sym, refl, ap, ◌∙◌, inl, inr, arith, length-append}
 use Rattle.std.proofs.lemmas.List.{get_or-set_same, get_or-set_other, get_or-replicate, append-nil}
 use Rattle.std.proofs.lemmas.Bool.{cases_eq, cases_lt, eq-eqb, ne_eqb, lt-ltb, le-ltb}
 use Rattle.workload.specs.Machine.{replaced}
@@ -46,6 +46,7 @@ filed_more sent xs (Some x) f p h = new (cases_eq p x.0) (cases_lt x.0 8) ∙ sy
   where
     same : sent p ≡ bodies_to p xs ++ []
     same = f p h ∙ sym (append-nil (bodies_to p xs))
+
     new : (p ≡ x.0) ⊎ (p ≡ x.0 → ⊥) → (x.0 < 8) ⊎ (8 ≤ x.0) → cond (ltb x.0 8) (replaced sent x.0 (sent x.0 ++ (x.1 ∷ []))) sent p ≡ bodies_to p xs ++ cond (eqb x.0 p) (x.1 ∷ []) []
     new (inl e) k = rw (lt-ltb x.0 8 (omega arith), eq-eqb p x.0 e, eq-eqb x.0 p (sym e)) (ap (λ ys. ys ++ (x.1 ∷ [])) (ap sent (sym e) ∙ f p h))
     new (inr n) (inl k) = rw (lt-ltb x.0 8 k, ne_eqb p x.0 n, ne_eqb x.0 p (λ q. n (sym q))) same

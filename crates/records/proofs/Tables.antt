@@ -1,5 +1,5 @@
 -- A table seen through a view of its entries: one entry read, and one replaced.
-use Rattle.std.proofs.Common.{◌≡◌, ℕ, ◌<◌, List, map, length, get_or, set, sym, ap, ◌∙◌, subst}
+use Rattle.std.proofs.Common.{◌≡◌, ℕ, ◌<◌, List, map, length, get_or, set, sym, subst}
 use lib.Seq.{map-set}
 use Rattle.std.proofs.lemmas.List.{get_or-map, length-map}
 use Rattle.workload.specs.Machine.{replaced}

@@ -37,6 +37,7 @@ impl ByHost {
     }
 
     /// Adds a number to those of host p.
+    // Room is asked, here and wherever a list grows: a push that may fail would let calls fail that cannot.
     pub fn push(&mut self, p: Host, x: u64)
         requires { length (row self.old p) < 64 }
         ensures { row self.new ≡ replaced (row self.old) p (row self.old p ++ (x ∷ [])) }

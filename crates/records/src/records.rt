@@ -10,6 +10,7 @@ use workload::host::Host;
 use workload::reaction::Reaction;
 
 /// The record of each host.
+// Not one generic table with `ByHost`: the two share an array by host, and no method.
 #[derive(Drop)]
 pub struct Records {
     records: [HostRecord; 8],

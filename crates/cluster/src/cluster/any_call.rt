@@ -9,6 +9,7 @@ use workload::Workload;
 
 impl<L: Logger, W: Workload> Cluster<L, W> {
     /// Makes a call that goes by its name.
+    // A call is data, read from a script or held in a list, so it is an enum and no closure.
     pub fn call(&mut self, call: Call) -> Result<u64, Refusal>
         ensures { Called L.Logger (system W.Workload self.old) call result (system W.Workload self.new) }
     {

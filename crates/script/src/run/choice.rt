@@ -50,6 +50,7 @@ impl Course<'_> {
     }
 
     /// Plays with the logger and the workload that the open asks for.
+    // Four cases, and no `dyn`: each has a theorem of its own logger, and a box would need the heap.
     fn play_chosen(&mut self, opening: Opening, listing: &mut Listing) -> Result<(), RunFault>
         requires { Begins self.old listing.old }
         ensures runs { RunsChosen opening.logger opening.workload opening.n opening.f self.old.script.now listing.old.bytes.now (leaving self.new listing.new result) }

@@ -18,6 +18,8 @@ pub enum Order {
 
 impl Order {
     /// The order in a body, if it is one that this sender may give.
+    // Here alone a kind byte becomes a case, and in `kind` a case its byte: an enum of the kinds would be a third list
+    // of them. No `TryFrom`, since a body of no order is no error.
     pub fn read(from_outside: bool, body: Fields) -> Option<Order>
         ensures { result ≡ order_in from_outside body }
     {
@@ -41,7 +43,6 @@ impl Order {
             Order::Statement => 4,
         }
     }
-
 }
 
 /// The body of the message that gives an order.

@@ -20,6 +20,7 @@ impl Mark {
     pub const BAR: u64 = 0x200_0000_0000_0000;
 
     /// The body of a width, by the bits of its float.
+    // No `From`: the bits may be those of a width that is not taken, and so of no mark.
     pub fn width(bits: u32) -> u64
         ensures { result ≡ width_body bits }
     {
@@ -27,6 +28,7 @@ impl Mark {
     }
 
     /// The mark in a body, if it is one that is taken.
+    // Here alone a kind byte becomes a case. No `TryFrom`, since a body of no mark is no error.
     pub fn read(body: Fields) -> Option<Mark>
         ensures value { result ≡ mark_in body }
         ensures width { TakenWidth result }

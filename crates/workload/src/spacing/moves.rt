@@ -40,6 +40,7 @@ impl Placement {
     }
 
     /// The bits of both floats in one number, those of the greatest width first.
+    // No `From`: it asks that both floats are numbers.
     fn bits(self) -> u64
         requires { Steady self }
         ensures { result ≡ both_bits self }

@@ -1,4 +1,4 @@
-use Rattle.std.proofs.Common.{Some, None, ap, ◌∙◌, arith, rules}
+use Rattle.std.proofs.Common.{Some, None, ap, ◌∙◌, arith}
 use mathlib.Core.Path.{fun_ext}
 use Rattle.logger.specs.HostSets.{members}
 use Rattle.loggers.specs.FamilyBased.{Holdings, put, knowing, handed}

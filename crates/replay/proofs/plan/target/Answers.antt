@@ -1,4 +1,4 @@
-use Rattle.std.proofs.Common.{◌≡◌, ◌+◌, true, false, is_some, ℕ, sym, ap, ◌∙◌, arith}
+use Rattle.std.proofs.Common.{◌≡◌, ◌+◌, true, false, is_some, sym, ◌∙◌, arith}
 use Rattle.replay.proofs.Reaching.{reach_more, reach_stops, reach_ends}
 use Rattle.replay.proofs.plan.target.Goals as goal
 

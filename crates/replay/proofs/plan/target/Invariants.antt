@@ -1,4 +1,4 @@
-use Rattle.std.proofs.Common.{◌≡◌, ◌-◌, ◌≤◌}
+use Rattle.std.proofs.Common.{◌≡◌, ◌-◌}
 use Rattle.calls.specs.Recovery.{target, reach}
 use Rattle.replay.proofs.plan.target.Given as goal
 

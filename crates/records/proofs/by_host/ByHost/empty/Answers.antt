@@ -1,4 +1,4 @@
-use Rattle.std.proofs.Common.{[], refl, rules, arith}
+use Rattle.std.proofs.Common.{[], refl, arith}
 use Rattle.records.proofs.Blank.{blank}
 use Rattle.records.proofs.by_host.ByHost.empty.Goals as goal
 

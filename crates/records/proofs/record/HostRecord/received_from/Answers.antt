@@ -1,4 +1,4 @@
-use Rattle.std.proofs.Common.{◌≤◌, length, ap, ◌∙◌, arith}
+use Rattle.std.proofs.Common.{length, ap, ◌∙◌, arith}
 use Rattle.network.proofs.Histories.{count_from_low}
 use Rattle.network.specs.Network.{count_from}
 use Rattle.records.proofs.record.HostRecord.received_from.Goals as goal

@@ -1,4 +1,3 @@
-use Rattle.std.proofs.Common.{rules}
 use Rattle.records.proofs.Filing.{nothing_counted, nothing_filed}
 use Rattle.records.proofs.record.grow.HostRecordDefault.default.Goals as goal
 
