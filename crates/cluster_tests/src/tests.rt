@@ -35,8 +35,16 @@ fn sizes_of_an_open(rt: HostRuntime) {
     let mut cluster = ledger();
     assert_eq!(rt; cluster.open(1, 1), Err(Refusal::HostCount), "one host");
     assert_eq!(rt; cluster.open(9, 1), Err(Refusal::HostCount), "nine hosts");
-    assert_eq!(rt; cluster.open(4, 0), Err(Refusal::DownBound), "none may be down");
-    assert_eq!(rt; cluster.open(4, 4), Err(Refusal::DownBound), "all may be down");
+    assert_eq!(rt;
+        cluster.open(4, 0),
+        Err(Refusal::DownBound),
+        "none may be down"
+    );
+    assert_eq!(rt;
+        cluster.open(4, 4),
+        Err(Refusal::DownBound),
+        "all may be down"
+    );
     assert_eq!(rt; cluster.open(2, 1), Ok(0));
     assert_eq!(rt; cluster.open(8, 7), Ok(0));
 }
