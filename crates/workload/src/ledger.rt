@@ -109,6 +109,7 @@ impl Workload for Ledger {
     }
 
     fn show(&self, p: Host) -> u64 {
-        self.balances[p.index()]
+        let host = p.index();
+        self.balances[host]
     }
 }
