@@ -29,14 +29,6 @@ impl Sender {
         self.0
     }
 
-    /// Where a table of nine has its place for the sender.
-    pub const fn index(self) -> usize
-        ensures value { result ≡ self }
-        ensures most { result ≤ 8 }
-    {
-        self.number() as usize
-    }
-
     /// The host that sent it, if it is not the outside world.
     pub fn host(self) -> Option<Host>
         ensures { result ≡ cond (nat_lt self 8) (Some self) None }

@@ -43,7 +43,11 @@ fn transfers_to_other_hosts_alone(rt: HostRuntime) {
 #[test]
 fn senders_matter(rt: HostRuntime) {
     let rows = [
-        (OUTSIDE, u64::from(Order::Arrival(5)), "an arrival from outside"),
+        (
+            OUTSIDE,
+            u64::from(Order::Arrival(5)),
+            "an arrival from outside",
+        ),
         (1, Order::Credit(5).into(), "a credit from a host"),
         (1, Order::Transfer(1, 5).into(), "a transfer from a host"),
         (1, Order::Statement.into(), "a statement from a host"),

@@ -18,7 +18,11 @@ fn check_taken(rt: &impl Abort, bits: u32, what: &str) {
     let mut spacing = margin();
     let body = Mark::width(bits);
     let reaction = spacing.step(Host::new(0), OUTSIDE, body);
-    assert_eq!(rt; spacing.show(Host::new(0)), bits as u64 * 0x1_0000_0001, "{what}");
+    assert_eq!(rt;
+        spacing.show(Host::new(0)),
+        bits as u64 * 0x1_0000_0001,
+        "{what}"
+    );
     assert_eq!(rt; reaction.send, Some((1, body)), "{what}");
     assert_eq!(rt; reaction.output, None, "{what}");
 }
