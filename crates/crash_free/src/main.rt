@@ -126,6 +126,7 @@ fn print_balances(rt: &HostRuntime, run: &CrashFree<Ledger>) -> io::Result<()> {
     if let Some(output) = run.output(1, 0) {
         println!(rt; "The statement of host 1 says {output}.")?;
     }
+    // Plain numbers, and no hosts: a call takes any.
     for p in 0..2u8 {
         if let Ok(balance) = run.show(p) {
             println!(rt; "Host {p} has {balance}.")?;

@@ -46,6 +46,7 @@ impl From<Command<'_>> for Call {
 
 impl Command<'_> {
     /// The letter that stands for the command in a listing.
+    // No `From`: a letter says less than the command, and a byte may mean other things of it.
     pub fn letter(self) -> u8
         ensures { result ≡ letter (call_of self.entry) }
     {

@@ -50,6 +50,7 @@ impl Records {
     }
 
     /// The output at place i, from 0, of host p.
+    // That i is below 64 is said here and above: a list's own contract does not pass on how long it may be.
     pub fn output(&self, p: Host, i: u8) -> Option<u64>
         ensures value { result ≡ slice_get (lists_of self.now p).outputs i }
         ensures few { is_some result ≡ true → i < 64 }

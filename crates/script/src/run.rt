@@ -11,6 +11,7 @@ pub use turn::play_on;
 /// the script's end.
 #[derive(Clone, Copy, PartialEq, Eq, Debug)]
 pub struct Ran {
+    // A number, and no slice of the listing: C is told how much is written.
     pub written: usize,
     pub stop: Option<Stop>,
 }
