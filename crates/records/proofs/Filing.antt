@@ -1,6 +1,6 @@
 -- What a record keeps beside its lists stays true as they grow.
-use Rattle.std.proofs.Common.{◌≡◌, ℕ, suc, ◌+◌, ◌<◌, ◌≤◌, cond, eqb, ltb, ◌⊎◌, List, [], ◌∷◌, ◌++◌, length, get_or, replicate, Some, None, Option, sym, refl, ap, ◌∙◌, inl, inr, arith, length-append}
-use Rattle.std.proofs.lemmas.List.{get_or-set_same, get_or-set_other, get_or-replicate, append-nil}
+use Rattle.std.proofs.Common.{◌≡◌, ℕ, suc, ◌+◌, ◌<◌, ◌≤◌, cond, eqb, ltb, ◌⊎◌, List, [], ◌∷◌, ◌++◌, length, get_or, Some, None, Option, sym, refl, ap, ◌∙◌, inl, inr, arith, length-append}
+use Rattle.std.proofs.lemmas.List.{get_or-set_same, get_or-set_other, append-nil}
 use Rattle.std.proofs.lemmas.Bool.{cases_eq, cases_lt, eq-eqb, ne_eqb, lt-ltb, le-ltb}
 use Rattle.workload.specs.Machine.{replaced}
 use Rattle.network.specs.declared.message.Receipt.{Receipt}
@@ -9,10 +9,7 @@ use Rattle.network.specs.Network.{count_from, bodies_to}
 use Rattle.network.proofs.Histories.{bodies_to_append}
 use Rattle.records.specs.Index.{Counted, FiledIn, RoomFor, one_taken, with_filed}
 
--- nothing is counted or filed at first
-pub nothing_counted : (xs : List Receipt) → xs ≡ [] → Counted (replicate 9 0) xs
-nothing_counted xs e s h = rw e (get_or-replicate 9 s 0 0 h)
-
+-- nothing is filed at first
 pub nothing_filed : (sent : ℕ → List ℕ) (xs : List (ℕ × ℕ)) → sent ≡ (λ p. []) → xs ≡ [] → FiledIn sent xs
 nothing_filed sent xs e f p h = rw (e, f) refl
 

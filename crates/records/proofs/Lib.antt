@@ -1,4 +1,3 @@
 pub mod Blank
-pub mod Sends
 pub mod Filing
 pub mod Tables
