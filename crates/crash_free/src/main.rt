@@ -18,6 +18,7 @@ const WIDE: u32 = 0x4580_0000;
 const NARROW: u32 = 0x3980_0000;
 
 /// What an answer says, printed at the end of an action's line.
+// No `Display`: an answer is a `Result`, whose text is not ours to say.
 fn print_answer(rt: &HostRuntime, answer: Result<u64, Refusal>) -> io::Result<()> {
     match answer {
         Ok(ssn) => println!(rt; "message {ssn}"),
@@ -48,6 +49,7 @@ fn pass_along(rt: &HostRuntime, run: &mut CrashFree<Spacing>, body: u64) -> io::
 }
 
 /// The position and the greatest width in a number that spacing shows or puts out.
+// No `Display`: a shown state is a plain number.
 fn print_placement(rt: &HostRuntime, shown: u64) -> io::Result<()> {
     let greatest = shown / 0x1_0000_0000;
     let position = shown % 0x1_0000_0000;
@@ -126,7 +128,6 @@ fn print_balances(rt: &HostRuntime, run: &CrashFree<Ledger>) -> io::Result<()> {
     if let Some(output) = run.output(1, 0) {
         println!(rt; "The statement of host 1 says {output}.")?;
     }
-    // Plain numbers, and no hosts: a call takes any.
     for p in 0..2u8 {
         if let Ok(balance) = run.show(p) {
             println!(rt; "Host {p} has {balance}.")?;

@@ -21,6 +21,7 @@ fn hosts() -> HostCount
     HostCount::new(3)
 }
 
+// No `Display`: how a set is printed is this program's alone.
 fn print_set(rt: &HostRuntime, set: HostSet) -> io::Result<()> {
     for h in hosts().hosts() {
         if set.contains(h) {

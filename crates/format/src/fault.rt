@@ -80,7 +80,7 @@ impl From<ListFault> for RunFault {
 
 impl RunFault {
     /// The layer that the fault comes from: 1 the reader, 2 the cluster, 3 the listing.
-    // A number, which is only printed; `From` gives the other one, that of the check.
+    // A number, which is only printed: an enum of layers would be this one without its faults.
     pub fn layer(self) -> u8
         ensures { result ≡ layer self }
     {

@@ -1,5 +1,5 @@
 ghost use Rattle.std.specs.Prelude.{◌≡◌, ◌≤◌, length};
-ghost use Rattle.format.specs.Lines.{stop_line, placed, ending};
+ghost use Rattle.format.specs.Lines.{answer_line, stop_line, placed, ending};
 
 use crate::fault::{ListFault, Stop};
 use crate::line::Line;
@@ -56,13 +56,8 @@ impl<'a> Listing<'a> {
         ensures bytes { self.new.bytes.now ≡ placed self.old.bytes.now self.old.written text.now }
         ensures written { self.new.written ≡ written_then self.old.written (ending self.old.bytes.now self.old.written text.now) }
     {
-        let start = self.written;
-        if text.len() > self.capacity() - start {
-            return Err(ListFault::Full);
-        }
-        let end = start + text.len();
-        self.bytes[start..end].copy_from_slice(text);
-        self.written = end;
+        let bytes = &mut *self.bytes;
+        self.written = put(bytes, self.written, text)?;
         Ok(())
     }
 
@@ -77,12 +72,32 @@ impl<'a> Listing<'a> {
     }
 }
 
+/// Puts a text at a place of a buffer, whole or not at all. Answers where it ends.
+pub fn put(listing: &mut [u8], at: usize, text: &[u8]) -> Result<usize, ListFault>
+    ensures value { result ≡ ending listing.old at text.now }
+    ensures listing { listing.new ≡ placed listing.old at text.now }
+{
+    if at <= listing.len() && text.len() <= listing.len() - at {
+        let end = at + text.len();
+        listing[at..end].copy_from_slice(text);
+        Ok(end)
+    } else {
+        Err(ListFault::Full)
+    }
+}
+
+/// Puts the line of a command at a place of a buffer, whole or not at all. Answers where it ends.
+pub fn list(listing: &mut [u8], at: usize, entry: &Entry) -> Result<usize, ListFault>
+    ensures value { result ≡ ending listing.old at (answer_line entry.now) }
+    ensures listing { listing.new ≡ placed listing.old at (answer_line entry.now) }
+{
+    put(listing, at, Line::from(*entry).as_slice())
+}
+
 /// Puts the line of a stop at the start of a buffer, whole or not at all. Answers where it ends.
 pub fn write_stop(buffer: &mut [u8], stop: &Stop) -> Result<usize, ListFault>
     ensures value { result ≡ ending buffer.old 0 (stop_line stop.now) }
     ensures buffer { buffer.new ≡ placed buffer.old 0 (stop_line stop.now) }
 {
-    let mut listing = Listing::new(buffer);
-    listing.put(Line::from(*stop).as_slice())?;
-    Ok(listing.written())
+    put(buffer, 0, Line::from(*stop).as_slice())
 }

@@ -73,6 +73,7 @@ impl<'a> Reader<'a> {
             return Ok(None);
         };
         let mut ahead = Reader::new(self.script, at + 1);
+        // Here alone a kind byte becomes a case: an enum of kinds would be a second list of commands.
         let command = match kind {
             1 => Command::Post(ahead.take()?),
             2 => Command::Deliver(ahead.take()?),

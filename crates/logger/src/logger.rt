@@ -54,7 +54,7 @@ pub trait Logger {
         ensures { acts Operation.rejoin self.old self.new };
 
     /// The sender and the ssn of receipt number r of host q, if its determinant can be found.
-    // A pair of plain numbers, by a rule of the project for this answer.
+    // A host and a number, and a pair of plain numbers for an answer: a form that a rule of the project fixes.
     fn find(&self, q: Host, r: SeqNo) -> Option<(u8, u8)>
         ensures { result ≡ found self.now q r };
 

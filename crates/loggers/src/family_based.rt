@@ -96,6 +96,6 @@ impl Logger for FamilyBased {
     fn find(&self, q: Host, r: SeqNo) -> Option<(u8, u8)> {
         let held = self.table.get(q, r)?;
         let entry = gather(held, &self.hosts)?;
-        Some((entry.source.sender, entry.source.ssn))
+        Some(entry.source.into())
     }
 }

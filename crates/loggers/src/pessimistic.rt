@@ -74,8 +74,6 @@ impl Logger for Pessimistic {
     }
 
     fn find(&self, q: Host, r: SeqNo) -> Option<(u8, u8)> {
-        self.store
-            .get(q, r)
-            .map(|source| (source.sender, source.ssn))
+        self.store.get(q, r).map(|source| (*source).into())
     }
 }

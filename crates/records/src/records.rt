@@ -10,7 +10,7 @@ use workload::host::Host;
 use workload::reaction::Reaction;
 
 /// The record of each host.
-// Not one generic table with `ByHost`: the two share an array by host, and no method.
+// Not one generic table with `ByHost`: of their methods only `len` and the clearing are alike, in a line each.
 #[derive(Drop)]
 pub struct Records {
     records: [HostRecord; 8],
@@ -50,7 +50,7 @@ impl Records {
     }
 
     /// The output at place i, from 0, of host p.
-    // That i is below 64 is said here and above: a list's own contract does not pass on how long it may be.
+    // `few` is promised in public, here and by `Hosts`, so it stays; a list's contract does not pass it on.
     pub fn output(&self, p: Host, i: u8) -> Option<u64>
         ensures value { result ≡ slice_get (lists_of self.now p).outputs i }
         ensures few { is_some result ≡ true → i < 64 }
@@ -59,6 +59,7 @@ impl Records {
     }
 
     /// Host p took a message, and did what the reaction says: its record is lent, and grows.
+    // Room is asked: a record that may refuse would let calls fail that cannot.
     pub fn grow(&mut self, p: Host, message: Message, reaction: Reaction)
         requires { length (lists_of self.old p).receipts < 64 }
         ensures { lists_of self.new ≡ replaced (lists_of self.old) p (with_taken (lists_of self.old p) message reaction) }

@@ -25,6 +25,7 @@ fn todo(call: Call) -> Made {
     }
 }
 
+// No `Display`: an answer is a `Result`, whose text is not ours to say.
 fn print_answer(rt: &HostRuntime, answer: Result<u64, Refusal>) -> io::Result<()> {
     match answer {
         Ok(answer) => print!(rt; ": {answer}"),
@@ -43,6 +44,7 @@ fn down_after(down: HostSet, made: &Made) -> HostSet {
     }
 }
 
+// No `Display` of a set: it is those that are not in it that are printed.
 fn print_up(rt: &HostRuntime, n: u8, down: HostSet) -> io::Result<()> {
     print!(rt; " (up:")?;
     for host in HostCount::MOST.hosts() {

@@ -9,7 +9,9 @@ use workload::host_count::HostCount;
 
 mod reached;
 mod replay;
-mod restart;
+mod returning;
+
+pub use returning::restart;
 
 /// What a recovery aims at: the hosts that return, and how many receipts each of them is to have again, which is
 /// how many of its receipts, from the first on, the logger finds.
@@ -35,7 +37,7 @@ fn target<L: Logger>(logger: &L, q: Host) -> u8
 }
 
 /// The target of each host.
-fn targets<L: Logger>(logger: &L) -> [u8; 8]
+pub fn targets<L: Logger>(logger: &L) -> [u8; 8]
     ensures { AreTargets (L.Logger.found logger.now) result }
 {
     let mut table = [0; 8];

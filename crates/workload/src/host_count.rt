@@ -6,6 +6,7 @@ use crate::host_range::HostRange;
 use std::marker::Model;
 
 /// How many hosts there are: at most eight.
+// Not one type with `Host`, `Sender` and `SeqNo` by its bound: a count would then pass for a sender.
 #[derive(Clone, Copy, PartialEq, Eq, Debug)]
 pub struct HostCount(u8);
 

@@ -102,6 +102,7 @@ impl Workload for Ledger {
     }
 
     fn step(&mut self, p: Host, s: u8, body: u64) -> Reaction {
+        // A workload takes any number for a sender, so it is no `Sender`.
         let order = Order::read(s == OUTSIDE, Fields::from(body));
         let (balance, reaction) = self.settle(p, order);
         self.set(p, balance);

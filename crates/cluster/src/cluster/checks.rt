@@ -46,6 +46,7 @@ impl<L: Logger, W: Workload> Cluster<L, W> {
                 return Err(Refusal::SenderDown);
             }
         }
+        // As in a crash-free run, whose other checks are not these.
         let message = self.hosts.waiting(p, s).ok_or(Refusal::NothingWaits)?;
         if self.hosts.receipts(p) >= 64 {
             return Err(Refusal::ReceiptsFull);

@@ -35,6 +35,7 @@ impl<W: Workload> Hosts<W> {
     }
 
     /// The outside world posts a body to host p.
+    // Room is asked, here and below: hosts that may refuse would let calls fail that cannot.
     pub fn add_post(&mut self, p: Host, body: u64)
         requires { length ((look W.Workload self.old).posts p) < 64 }
         ensures { look W.Workload self.new ≡ with_post (look W.Workload self.old) p body }

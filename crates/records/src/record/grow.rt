@@ -60,16 +60,14 @@ impl Default for HostRecord {
 
 impl HostRecord {
     /// The host took a message, and did what the reaction says.
+    // Room is asked: a record that may refuse would let calls fail that cannot.
     pub fn grow(&mut self, message: Message, reaction: Reaction)
         requires { length (lists self.old).receipts < 64 }
         ensures { lists self.new ≡ with_taken (lists self.old) message reaction }
     {
         file(&mut self.sent, reaction.send);
         count_sender(&mut self.taken, message.sender);
-        self.receipts.push(Receipt {
-            sender: message.sender,
-            ssn: message.ssn,
-        });
+        self.receipts.push(Receipt::from(message));
         push_some(&mut self.sends, reaction.send);
         push_some(&mut self.outputs, reaction.output);
     }

@@ -50,7 +50,7 @@ impl Course<'_> {
     }
 
     /// Plays with the logger and the workload that the open asks for.
-    // Four cases, and no `dyn`: each has a theorem of its own logger, and a box would need the heap.
+    // Four cases, and no `dyn`: each has the theorem of its own logger and workload.
     fn play_chosen(&mut self, opening: Opening, listing: &mut Listing) -> Result<(), RunFault>
         requires { Begins self.old listing.old }
         ensures runs { RunsChosen opening.logger opening.workload opening.n opening.f self.old.script.now listing.old.bytes.now (leaving self.new listing.new result) }
@@ -84,6 +84,7 @@ impl Course<'_> {
 }
 
 /// Plays a script on a cluster of its own, and lists its commands.
+// `within` was promised in public, here and by `play_on`, so it stays.
 pub fn play(script: &[u8], listing: &mut [u8]) -> Ran
     ensures value { left listing.new result ≡ whole script.now listing.old }
     ensures guaranteed { RunsRead (first_read script.now listing.old) script.now listing.old (left listing.new result) }

@@ -8,6 +8,7 @@ use format::listing::Listing;
 
 /// How far a run has come: the command that is next, by its place in the script and its number. The listing is not
 /// held here but passed: of a buffer that is lent to a struct within a struct, nothing would be known after the run.
+// Script and place, and no reader: a course stays at a command until its line is put, and a reader has moved on by then.
 #[derive(Clone, Copy)]
 pub(super) struct Course<'s> {
     pub(super) script: &'s [u8],

@@ -76,6 +76,7 @@ impl Course<'_> {
         ensures finished { Finished L.Logger self.old.script.now (system W.Workload cluster.old) self.old.place self.old.number listing.old.bytes.now listing.old.written (leaving self.new listing.new result) }
         ensures same { SameRun self.old self.new listing.old listing.new }
     {
+        // `turn` counts the command: a stop tells its number, which no loop over a reader that may fail would leave.
         while self.turn(cluster, listing)? {}
         Ok(())
     }

@@ -18,8 +18,8 @@ pub enum Order {
 
 impl Order {
     /// The order in a body, if it is one that this sender may give.
-    // Here alone a kind byte becomes a case, and in `kind` a case its byte: an enum of the kinds would be a third list
-    // of them. No `TryFrom`, since a body of no order is no error.
+    // Here alone a kind byte becomes a case, by one test of the sender: an enum of kinds or of sides would be a second
+    // list of the same. No `TryFrom`, since a body of no order is no error.
     pub fn read(from_outside: bool, body: Fields) -> Option<Order>
         ensures { result ≡ order_in from_outside body }
     {
@@ -33,6 +33,7 @@ impl Order {
     }
 
     /// The kind byte.
+    // A case with fields has no number of its own, so a `match` gives it; `From` gives the whole body.
     pub fn kind(self) -> u8
         ensures { result ≡ kind self }
     {

@@ -10,6 +10,7 @@ const WIDEST: u32 = 0x4580_0000;
 #[derive(Clone, Copy)]
 pub enum Mark {
     /// Kind 1: a width to add.
+    // A plain `f32`, by a rule of the project: so that it is taken is said where a mark is read and used.
     Width(f32),
     /// Kind 2: a barline.
     Bar,

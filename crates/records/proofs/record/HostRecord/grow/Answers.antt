@@ -20,7 +20,7 @@ invariant_of-self c =
     record {
       replies = rw (c.push.ensures.items, c.push_some.ensures) (still_fewer r.receipts.items r.sends.items _ c.args.reaction.send r.replies);
       statements = rw (c.push.ensures.items, c.push_some-2.ensures) (still_fewer r.receipts.items r.outputs.items _ c.args.reaction.output r.statements);
-      counted = rw (c.push.ensures.items, c.count_sender.ensures) (counted_more r.taken r.receipts.items _ (search rules) r.counted);
+      counted = rw (c.push.ensures.items, c.from.ensures, c.count_sender.ensures) (counted_more r.taken r.receipts.items _ (search rules) r.counted);
       filed = rw c.push_some.ensures
           (subst (λ (g : ℕ → List ℕ). FiledIn g (r.sends.items ++ optional c.args.reaction.send)) (sym c.file.ensures) (filed_more _ r.sends.items c.args.reaction.send r.filed));
     }

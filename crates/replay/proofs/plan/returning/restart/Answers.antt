@@ -1,7 +1,7 @@
 use Rattle.std.proofs.Common.{◌∙◌, sym, refl, true, false, rules}
 use Rattle.workload.proofs.Turns.{starts, turn, next, ends}
 use Rattle.replay.proofs.Restarting.{restarted_more}
-use Rattle.replay.proofs.plan.Plan.restart.Goals as goal
+use Rattle.replay.proofs.plan.returning.restart.Goals as goal
 
 pub loop-h-init : goal.loop-h-init
 loop-h-init g c = starts _ _ _ (search rules) (search rules)
