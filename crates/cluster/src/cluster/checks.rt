@@ -46,11 +46,6 @@ impl<L: Logger, W: Workload> Cluster<L, W> {
                 return Err(Refusal::SenderDown);
             }
         }
-        // As in a crash-free run, whose other checks are not these.
-        let message = self.hosts.waiting(p, s).ok_or(Refusal::NothingWaits)?;
-        if self.hosts.receipts(p) >= 64 {
-            return Err(Refusal::ReceiptsFull);
-        }
-        Ok(message)
+        self.hosts.check_message(p, s)
     }
 }

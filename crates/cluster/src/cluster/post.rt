@@ -9,18 +9,12 @@ use network::refusal::Refusal;
 use workload::Workload;
 
 impl<L: Logger, W: Workload> Cluster<L, W> {
-    // Beside the post of a crash-free run: between the checks that both make stands that the cluster is whole.
     /// The outside world posts a body to host p, which may be down. Answers its ssn.
     pub fn post(&mut self, p: u8, body: u64) -> Result<u64, Refusal>
         ensures { Called L.Logger (system W.Workload self.old) (Post p body) result (system W.Workload self.new) }
     {
         let host = self.hosts.check_host(p)?;
         self.check_whole()?;
-        let posts = self.hosts.posts(host);
-        if posts >= 64 {
-            return Err(Refusal::PostsFull);
-        }
-        self.hosts.add_post(host, body);
-        Ok(posts as u64 + 1)
+        self.hosts.try_post(host, body)
     }
 }

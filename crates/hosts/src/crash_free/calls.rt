@@ -31,12 +31,7 @@ impl<W: Workload> CrashFree<W> {
         ensures { posting (look W.Workload self.old.hosts) p body ≡ (result, look W.Workload self.new.hosts) }
     {
         let host = self.hosts.check_host(p)?;
-        let posts = self.hosts.posts(host);
-        if posts >= 64 {
-            return Err(Refusal::PostsFull);
-        }
-        self.hosts.add_post(host, body);
-        Ok(posts as u64 + 1)
+        self.hosts.try_post(host, body)
     }
 
     /// Host p takes the next message from s. Answers its ssn.
@@ -44,13 +39,7 @@ impl<W: Workload> CrashFree<W> {
         ensures { delivering (look W.Workload self.old.hosts) p s ≡ (result, look W.Workload self.new.hosts) }
     {
         let (host, sender) = self.hosts.check_pair(p, s)?;
-        let message = self
-            .hosts
-            .waiting(host, sender)
-            .ok_or(Refusal::NothingWaits)?;
-        if self.hosts.receipts(host) >= 64 {
-            return Err(Refusal::ReceiptsFull);
-        }
+        let message = self.hosts.check_message(host, sender)?;
         self.hosts.take(host, message);
         Ok(message.ssn as u64)
     }

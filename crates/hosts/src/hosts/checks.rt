@@ -1,9 +1,10 @@
-ghost use Rattle.std.specs.Prelude.{◌≡◌, cond, [], ◌∷◌, Some, None};
+ghost use Rattle.std.specs.Prelude.{◌≡◌, ◌<◌, ◌≤◌, cond, [], ◌∷◌, length, IfOk, IfErr, Ok, Err, Some, None};
 ghost use Rattle.network.specs.Checks.{checked, giving};
-ghost use Rattle.network.specs.Network.{count_check, host_check, pair_checks, is_sender};
+ghost use Rattle.network.specs.Network.{count_check, host_check, pair_checks, is_sender, message_checks, waiting};
 ghost use Rattle.hosts.specs.View.{look};
 
 use super::Hosts;
+use network::message::Message;
 use network::refusal::Refusal;
 use workload::host::Host;
 use workload::host_count::HostCount;
@@ -35,6 +36,19 @@ impl<W: Workload> Hosts<W> {
         let host = self.check_host(p)?;
         let sender = self.sender(host, s).ok_or(Refusal::NoSuchSender)?;
         Ok((host, sender))
+    }
+
+    /// Checks 9 and 10: a message from s waits at p, and p has room for its receipt.
+    pub fn check_message(&self, p: Host, s: Sender) -> Result<Message, Refusal>
+        ensures message { IfOk result (λ t. (checked (message_checks (look W.Workload self.now) p s) ≡ Ok tt) × (waiting (look W.Workload self.now) p s ≡ Some t)) }
+        ensures refusal { IfErr result (λ e. checked (message_checks (look W.Workload self.now) p s) ≡ Err e) }
+        ensures range { IfOk result (λ t. (length ((look W.Workload self.now).hosts p).receipts < 64) × (t.sender ≡ s) × (1 ≤ t.ssn) × (t.ssn ≤ 64)) }
+    {
+        let message = self.waiting(p, s).ok_or(Refusal::NothingWaits)?;
+        if self.receipts(p) >= 64 {
+            return Err(Refusal::ReceiptsFull);
+        }
+        Ok(message)
     }
 
     /// The sender of this number, if it may send to host p: the outside world, or another host below n.

@@ -1,11 +1,13 @@
-ghost use Rattle.std.specs.Prelude.{◌≡◌, ◌<◌, ◌≤◌, length};
+ghost use Rattle.std.specs.Prelude.{◌≡◌, ◌+◌, ◌<◌, [], ◌∷◌, length, Ok};
+ghost use Rattle.network.specs.Checks.{checked, unless_refused};
 ghost use Rattle.network.specs.Host.{fresh, taking};
-ghost use Rattle.network.specs.Network.{started, unstarted, with_post, with_released, with_host};
+ghost use Rattle.network.specs.Network.{post_check, started, unstarted, with_post, with_released, with_host};
 ghost use Rattle.hosts.specs.View.{look};
 
 use super::Hosts;
 use crate::outside::Outside;
 use network::message::Message;
+use network::refusal::Refusal;
 use records::records::Records;
 use workload::Workload;
 use workload::host::Host;
@@ -41,6 +43,18 @@ impl<W: Workload> Hosts<W> {
         ensures { look W.Workload self.new ≡ with_post (look W.Workload self.old) p body }
     {
         self.outside.posts.push(p, body);
+    }
+
+    /// The outside world posts a body to host p, if there is room: check 11. Answers its ssn.
+    pub fn try_post(&mut self, p: Host, body: u64) -> Result<u64, Refusal>
+        ensures { unless_refused (checked (post_check (look W.Workload self.old) p ∷ [])) (look W.Workload self.old) (Ok (length ((look W.Workload self.old).posts p) + 1), with_post (look W.Workload self.old) p body) ≡ (result, look W.Workload self.new) }
+    {
+        let posts = self.posts(p);
+        if posts >= 64 {
+            return Err(Refusal::PostsFull);
+        }
+        self.add_post(p, body);
+        Ok(posts as u64 + 1)
     }
 
     /// Host p takes a message: the workload's step, then the receipt, the send and the output are added.
