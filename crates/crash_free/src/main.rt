@@ -31,6 +31,7 @@ fn post<W: Workload>(rt: &HostRuntime, run: &mut CrashFree<W>, p: u8, body: u64)
     print_answer(rt, run.post(p, body))
 }
 
+// A test and no `Display` of a sender: two lines of this program are all that prints one.
 fn deliver<W: Workload>(rt: &HostRuntime, run: &mut CrashFree<W>, p: u8, s: u8) -> io::Result<()> {
     if s == OUTSIDE {
         print!(rt; "  host {p} takes from outside: ")?;

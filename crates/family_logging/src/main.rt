@@ -32,6 +32,7 @@ fn print_set(rt: &HostRuntime, set: HostSet) -> io::Result<()> {
 }
 
 /// What host h holds of the first receipt of host q.
+// No `Display` of a determinant: this program alone prints one.
 fn print_held(rt: &HostRuntime, log: &FamilyBased, h: Host, q: Host) -> io::Result<()> {
     if let Some(Entry { source, holders }) = log.known_holders(h, q, SeqNo::new(1)) {
         let sender = source.sender;

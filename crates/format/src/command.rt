@@ -6,6 +6,7 @@ use crate::fault::ReadFault;
 use calls::call::Call;
 
 /// A command after the first, with its body as it stands in the script.
+// Bodies are lent and not read into fields, by a rule of the project.
 #[derive(Clone, Copy)]
 pub enum Command<'a> {
     /// A host, and the eight bytes of a message body, the highest first.

@@ -114,6 +114,7 @@ pub struct Stop {
 }
 
 /// The line of a stop.
+// Beside the bytes of `Line`: this is text for a program, and writing it may fail; the bytes always come about.
 impl fmt::Display for Stop {
     ghost output = { λ s. Some (stop_line s) };
 

@@ -73,6 +73,7 @@ impl<'a> Listing<'a> {
 }
 
 /// Puts a text at a place of a buffer, whole or not at all. Answers where it ends.
+// A buffer and a place beside it, here and in `list`: both were promised so in public, and `Listing` holds the two.
 pub fn put(listing: &mut [u8], at: usize, text: &[u8]) -> Result<usize, ListFault>
     ensures value { result ≡ ending listing.old at text.now }
     ensures listing { listing.new ≡ placed listing.old at text.now }

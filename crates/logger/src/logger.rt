@@ -27,6 +27,7 @@ pub trait Logger {
     ghost found: { Self → ℕ → ℕ → Option (ℕ × ℕ) };
 
     /// Forgets everything, and serves n hosts from now on, of which f may be down at once.
+    // f is a plain number: its bound depends on n, and `Sizes` says it.
     fn start(&mut self, n: HostCount, f: u8)
         requires { Sizes n f }
         ensures { acts (Operation.start n f) self.old self.new };
@@ -54,7 +55,7 @@ pub trait Logger {
         ensures { acts Operation.rejoin self.old self.new };
 
     /// The sender and the ssn of receipt number r of host q, if its determinant can be found.
-    // A host and a number, and a pair of plain numbers for an answer: a form that a rule of the project fixes.
+    // A pair of plain numbers for an answer: a form that a rule of the project fixes.
     fn find(&self, q: Host, r: SeqNo) -> Option<(u8, u8)>
         ensures { result ≡ found self.now q r };
 

@@ -8,6 +8,7 @@ use workload::host::Host;
 use workload::host_count::HostCount;
 
 /// How many hosts there are, how many of them may be down at once, and which are.
+// f is a plain number: its bound depends on n, and `Sizes` says it.
 #[derive(Drop)]
 pub struct Members {
     pub n: HostCount,

@@ -6,6 +6,7 @@ use network::seq_no::SeqNo;
 use workload::host::Host;
 
 /// A place for each receiver and receipt number, empty or not.
+// One array of 512, by a rule of the project; host and number go together as `find` takes them.
 #[derive(Drop)]
 pub struct Places<T> {
     places: [Option<T>; 512],
@@ -48,7 +49,7 @@ impl<T: Copy> Places<T> {
         requires { F.IsAlwaysCallable rule }
         ensures { EachChanged (F.post rule) self.old.places self.new.places }
     {
-        // After a `flatten` a proof would know nothing of what the loop wrote.
+        // Tried with `flatten`: a proof then knows nothing of what the loop wrote.
         for place in self.places.iter_mut() {
             if let Some(x) = place {
                 rule(x);

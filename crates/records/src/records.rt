@@ -10,7 +10,7 @@ use workload::host::Host;
 use workload::reaction::Reaction;
 
 /// The record of each host.
-// Not one generic table with `ByHost`: of their methods only `len` and the clearing are alike, in a line each.
+// Not one generic table with `ByHost`: only `empty`, `len` and the clearing are alike, in a line each.
 #[derive(Drop)]
 pub struct Records {
     records: [HostRecord; 8],
@@ -34,6 +34,7 @@ impl Records {
     }
 
     /// How many messages from s host p has received.
+    // s is any number: a narrower type would ask more. `few`, here, of outputs and in `Hosts`, was promised in public.
     pub fn received(&self, p: Host, s: u8) -> u8
         ensures value { result ≡ count_from s (lists_of self.now p).receipts }
         ensures few { result ≤ 64 }
@@ -50,7 +51,6 @@ impl Records {
     }
 
     /// The output at place i, from 0, of host p.
-    // `few` is promised in public, here and by `Hosts`, so it stays; a list's contract does not pass it on.
     pub fn output(&self, p: Host, i: u8) -> Option<u64>
         ensures value { result ≡ slice_get (lists_of self.now p).outputs i }
         ensures few { is_some result ≡ true → i < 64 }

@@ -7,6 +7,7 @@ use crate::host_count::HostCount;
 use std::marker::Model;
 
 /// The hosts of a run of numbers, lowest first.
+// A type of its own and no range mapped by `Host::new`, which asks of each number that it is below 8.
 #[derive(Drop)]
 pub struct HostRange {
     next: u8,

@@ -24,8 +24,8 @@ impl<L: Logger, W: Workload> Cluster<L, W> {
         }
     }
 
-    // n and f are two plain numbers, here and wherever they go together: a call refuses each by a check of its own.
     /// Starts cluster, logger and workload anew, with n hosts of which f may be down at once. Answers 0.
+    // n and f are two plain numbers, here and wherever they go together: a check of its own refuses each.
     pub fn open(&mut self, n: u8, f: u8) -> Result<u64, Refusal>
         ensures { Opened L.Logger W.Workload.machine (system W.Workload self.old) n f result (system W.Workload self.new) }
     {

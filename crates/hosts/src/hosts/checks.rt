@@ -30,6 +30,7 @@ impl<W: Workload> Hosts<W> {
     }
 
     /// Checks 3 and 4: and the sender is the outside world, or another host below n.
+    // p and s are two plain numbers, here and in the calls: a check of its own refuses each.
     pub fn check_pair(&self, p: u8, s: u8) -> Result<(Host, Sender), Refusal>
         ensures { result ≡ giving (p, s) (checked (pair_checks (look W.Workload self.now) p s)) }
     {

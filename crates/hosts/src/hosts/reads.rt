@@ -39,7 +39,6 @@ impl<W: Workload> Hosts<W> {
     }
 
     /// The output at place i, from 0, of host p.
-    // `few` was promised in public, so it stays.
     pub fn output(&self, p: Host, i: u8) -> Option<u64>
         ensures value { result ≡ slice_get ((look W.Workload self.now).hosts p).outputs i }
         ensures few { is_some result ≡ true → i < 64 }
