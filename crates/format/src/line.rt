@@ -31,6 +31,7 @@ impl Line {
     }
 
     /// A byte, and one after it.
+    // Room is asked, here and of a number: the parts of a line are few, and `ROOM` is for all of them.
     fn word(&mut self, byte: u8, end: u8)
         requires { length (text self.old) + 2 ≤ 86 }
         ensures { text self.new ≡ text self.old ++ byte ∷ end ∷ [] }

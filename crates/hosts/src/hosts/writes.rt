@@ -58,6 +58,8 @@ impl<W: Workload> Hosts<W> {
     }
 
     /// Host p takes a message: the workload's step, then the receipt, the send and the output are added.
+    // Room is asked, here and wherever a message is taken, and is told by what tested for it: a type for a host with room
+    // would be no plainer, as one receipt may end it.
     pub fn take(&mut self, p: Host, message: Message)
         requires { length ((look W.Workload self.old).hosts p).receipts < 64 }
         ensures { look W.Workload self.new ≡ with_host (look W.Workload self.old) p (taking (look W.Workload self.old).machine p ((look W.Workload self.old).hosts p) message) }
