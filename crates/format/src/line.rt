@@ -12,7 +12,7 @@ pub const ROOM: usize = 86;
 
 /// A line of a listing: bytes and no text, since its letter may be any byte. It is not made by `write!`, whose contract
 /// leaves open when it fails: a line always comes about.
-#[derive(Drop)]
+#[derive(Clone, Drop)]
 pub struct Line(ArrayVec<u8, ROOM>);
 
 impl Line {
