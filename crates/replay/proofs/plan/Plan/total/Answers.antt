@@ -5,14 +5,6 @@ use Rattle.replay.proofs.Adding.{one_more, none_more}
 use Rattle.replay.proofs.Reaching.{target_low}
 use Rattle.replay.proofs.plan.Plan.total.Goals as goal
 
-pub overflow_add-sum : goal.overflow_add-sum
-overflow_add-sum g c =
-    let t = turn _ _ _ _ _ c.in-Some.ensures.steps c.loop-q.invariant in
-    let plan = c.args.self.now in
-    let at = plan.are_targets c.index.result c.index.ensures.low in
-    let low = target_low (g.L.Logger.found plan.logger.now) c.index.result in
-    omega (arith, t.1.1, c.index.ensures.value, c.index.ensures.low)
-
 pub loop-q-preserved-then-contains : goal.loop-q-preserved-then-contains
 loop-q-preserved-then-contains g c =
     let e = c.in-Some.ensures.steps in
