@@ -13,10 +13,11 @@ Counted taken xs = (s : ℕ) → s < 9 → slice_index taken s ≡ count_from s 
 abbrev pub FiledIn : (ℕ → List ℕ) → List (ℕ × ℕ) → Type 0
 FiledIn sent xs = (p : ℕ) → p < 8 → sent p ≡ bodies_to p xs
 
+-- the same of a table as it is kept
 abbrev pub Filed : ByHost → List (ℕ × ℕ) → Type 0
 Filed sent xs = FiledIn (λ p. (slice_index_or sent.lists p (record { items = [] })).items) xs
 
--- ONE MORE: a receipt from s
+-- the counts after one more receipt, of a message from s
 abbrev pub one_taken : List ℕ → ℕ → List ℕ
 one_taken taken s = cond (nat_lt s 9) (slice_set taken s (slice_index taken s + 1)) taken
 
