@@ -11,7 +11,7 @@ use Rattle.format.specs.Faults.{layer, fault_number}
 
 -- what was written of a line
 abbrev pub text : Line → List ℕ
-text l = l.0.items
+text l = take l.len l.bytes
 
 -- the number of the refusal, and what was answered: 0 where there is none
 abbrev pub refusal_in : Answer → ℕ

@@ -68,7 +68,9 @@ impl<'a> Listing<'a> {
         ensures bytes { self.new.bytes.now ≡ placed self.old.bytes.now self.old.written (answer_line entry) }
         ensures written { self.new.written ≡ written_then self.old.written (ending self.old.bytes.now self.old.written (answer_line entry)) }
     {
-        self.put(Line::from(entry).as_slice())
+        let bytes = &mut *self.bytes;
+        self.written = list(bytes, self.written, &entry)?;
+        Ok(())
     }
 }
 
