@@ -71,7 +71,10 @@ impl Logger for FamilyBased {
 
     fn note(&mut self, p: Host, d: Determinant) {
         let (q, r) = (Host::new(d.receiver), SeqNo::new(d.number));
-        let mut held = self.table.get(q, r).copied().unwrap_or([None; 8]);
+        let mut held = match self.table.get(q, r) {
+            Some(held) => *held,
+            None => [None; 8],
+        };
         note_at(&mut held, p, d);
         self.table.set(q, r, held);
     }

@@ -20,7 +20,8 @@ impl Line {
 
     /// What was written so far.
     pub fn as_slice(&self) -> &[u8]
-        ensures { result.now ≡ text self.now }
+        ensures value { result.now ≡ text self.now }
+        ensures most { length result.now ≤ 86 }
     {
         &self.bytes[..self.len]
     }

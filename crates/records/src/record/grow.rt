@@ -76,6 +76,10 @@ impl HostRecord {
     pub fn clear(&mut self)
         ensures { lists self.new ≡ no_lists }
     {
+        // Then it has no sends and no outputs either.
+        if self.receipts.is_empty() {
+            return;
+        }
         self.receipts.clear();
         self.sends.clear();
         self.outputs.clear();
