@@ -71,6 +71,7 @@ impl Logger for FamilyBased {
 
     fn note(&mut self, p: Host, d: Determinant) {
         let (q, r) = (Host::new(d.receiver), SeqNo::new(d.number));
+        // A match: by `copied` and `unwrap_or` the row was copied twice, entry by entry.
         let mut held = match self.table.get(q, r) {
             Some(held) => *held,
             None => [None; 8],
