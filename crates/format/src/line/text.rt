@@ -53,9 +53,14 @@ impl Line {
         ensures text { text self.new ≡ text self.old ++ decimal n ++ end ∷ [] }
         ensures len { self.new.len ≤ self.old.len + 21 }
     {
-        let mut digits = Buffer::new();
-        self.add(digits.format(n).as_bytes());
-        self.add(&[end]);
+        // Most numbers of a listing have one digit: such a one needs no buffer.
+        if n < 10 {
+            self.word(b'0' + n as u8, end);
+        } else {
+            let mut digits = Buffer::new();
+            self.add(digits.format(n).as_bytes());
+            self.add(&[end]);
+        }
     }
 }
 
