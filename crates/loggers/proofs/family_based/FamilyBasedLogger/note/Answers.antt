@@ -12,7 +12,7 @@ returns c =
     let l = c.args.self.now in
     let rule = note_at c.args.p c.args.d in
     let read = λ (o : Option (Bor Row)). unwrap_or (option_copied o) (replicate 8 None) in
-    let same : c.match-get.self ≡ l = elim c.match-get.branch [ | in-Some w ↦ w.self-is | in-None w ↦ w.self-is ] in
+    let same : c.match-get.self ≡ l = elim c.match-get.branch [ in-Some w ↦ w.self-is | in-None w ↦ w.self-is ] in
     let held : c.match-get.held ≡ read c.get.result = elim c.match-get.branch [
       | in-Some w ↦ w.held-is ∙ sym (ap read w.in-Some.is)
       | in-None w ↦ w.held-is ∙ sym (ap read w.in-None.is)
