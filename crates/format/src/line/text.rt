@@ -53,7 +53,7 @@ impl Line {
         ensures text { text self.new ≡ text self.old ++ decimal n ++ end ∷ [] }
         ensures len { self.new.len ≤ self.old.len + 21 }
     {
-        // Most numbers of a listing have one digit: such a one needs no buffer.
+        // About half of the numbers of a listing have one digit: such a one needs no buffer.
         if n < 10 {
             self.word(b'0' + n as u8, end);
         } else {
