@@ -34,3 +34,7 @@ ones_mod b (suc n) =
     top zero k l = omega arith
     top (suc zero) k l = omega arith
     top (suc (suc t)) k l = absurd (omega arith)
+
+-- the bits that are 1 in a byte, whatever it is called, if it is b
+pub ones_all : (a b : ℕ) → a ≡ b → b < 256 → ones a ≡ count 8 (λ h. eqb (b / 2 ^ h % 2) 1)
+ones_all a b e l = let whole : a ≡ b % 256 = omega arith in ap ones whole ∙ ones_mod b 8

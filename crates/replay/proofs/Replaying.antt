@@ -28,14 +28,16 @@ module _ {S : Type 0} (found : Finder) (returning : ℕ → Bool) where
       let counted : (replay found returning j w).0 + 1 + count ≡ (replay found returning j w).0 + (count + 1) = omega arith in
       r ∙ ap (λ (x : ℕ × Network S). (x.0 + count, x.1)) taken ∙ ap (λ (c : ℕ). (c, (replay found returning j w).1)) counted
 
+  -- how a replay ends, whatever its answer is called, if that is the count
   pub replaying_stops :
-      (k t count : ℕ) (v₀ v : Network S) → t < k → lowest v.n (replayable found returning v) ≡ None → Replaying k v₀ t count v → replay found returning k v₀ ≡ (count, v)
-  replaying_stops k t count v₀ v l e r =
+      (k t count answer : ℕ) (v₀ v : Network S) → t < k → lowest v.n (replayable found returning v) ≡ None → count ≡ answer → Replaying k v₀ t count v
+      → replay found returning k v₀ ≡ (answer, v)
+  replaying_stops k t count answer v₀ v l e a r =
       r ∙ ap (λ (x : ℕ × Network S). (x.0 + count, x.1)) (turn k t v l ∙ ap (λ (o : Option (ℕ × Message)). replay_on o v (λ w. replay found returning (k - (t + 1)) w)) e)
-      ∙ ap (λ (c : ℕ). (c, v)) (zero-add count)
+      ∙ ap (λ (c : ℕ). (c, v)) (zero-add count ∙ a)
 
-  pub replaying_ends : (k t count : ℕ) (v₀ v : Network S) → k ≤ t → Replaying k v₀ t count v → replay found returning k v₀ ≡ (count, v)
+  pub replaying_ends : (k t count answer : ℕ) (v₀ v : Network S) → k ≤ t → count ≡ answer → Replaying k v₀ t count v → replay found returning k v₀ ≡ (answer, v)
   unfolding replay
-  replaying_ends k t count v₀ v l r =
+  replaying_ends k t count answer v₀ v l a r =
       let e : k - t ≡ 0 = omega arith in
-      r ∙ ap (λ (j : ℕ). ((replay found returning j v).0 + count, (replay found returning j v).1)) e ∙ ap (λ (c : ℕ). (c, v)) (zero-add count)
+      r ∙ ap (λ (j : ℕ). ((replay found returning j v).0 + count, (replay found returning j v).1)) e ∙ ap (λ (c : ℕ). (c, v)) (zero-add count ∙ a)

@@ -18,8 +18,8 @@ returns-in_default g c =
     let plan = c.args.self.now in
     let found = g.L.Logger.found plan.logger.now in
     ap (λ (k : ℕ). replay found (members plan.returning) k (look g.W.Workload c.args.hosts.now)) (sym c.total-most.ensures)
-    ∙ replaying_stops found (members plan.returning) c.total-most.result now.count now.count (look g.W.Workload c.args.hosts.now) (look g.W.Workload now.hosts)
-    c.loop-count-test.true (sym c.lowest.ensures.value ∙ c.in_default.is) now.invariant
+    ∙ replaying_stops found (members plan.returning) c.total-most.result now.count now.count _ (look g.W.Workload c.args.hosts.now) (look g.W.Workload now.hosts)
+    c.loop-count-test.true (sym c.lowest.ensures.value ∙ c.in_default.is) (omega arith) now.invariant
 
 pub returns : goal.returns
 returns g c =
@@ -27,6 +27,5 @@ returns g c =
     let plan = c.args.self.now in
     let found = g.L.Logger.found plan.logger.now in
     ap (λ (k : ℕ). replay found (members plan.returning) k (look g.W.Workload c.args.hosts.now)) (sym c.total-most.ensures)
-    ∙ replaying_ends found (members plan.returning) c.total-most.result now.count now.count (look g.W.Workload c.args.hosts.now) (look g.W.Workload now.hosts)
-    c.loop-count-test.false now.invariant
-    ∙ (let all : now.count ≡ c.total-most.result = omega arith in ap (λ (k : ℕ). (k, look g.W.Workload now.hosts)) all)
+    ∙ replaying_ends found (members plan.returning) c.total-most.result now.count now.count _ (look g.W.Workload c.args.hosts.now) (look g.W.Workload now.hosts)
+    c.loop-count-test.false (omega arith) now.invariant
