@@ -1,5 +1,5 @@
 -- The first turn of a run, and the trace that the others make of it.
-use Rattle.std.proofs.Common.{◌≡◌, ℕ, List, [], ◌∷◌, Ok, Err, Result, sym, refl, ap, ◌∙◌, subst, arith}
+use Rattle.std.proofs.Common.{◌≡◌, ℕ, ◌+◌, List, [], ◌∷◌, Ok, Err, Result, sym, refl, ap, ◌∙◌, subst, arith}
 use Rattle.std.specs.Result.{IsErrAnd}
 use Rattle.workload.specs.Machine.{Machine}
 use Rattle.network.specs.declared.refusal.Refusal.{Refusal}
@@ -18,8 +18,8 @@ use Rattle.format.specs.declared.listing.Listing.{Listing}
 use Rattle.script.specs.declared.run.course.Course.{Course}
 use Rattle.script.specs.Course.{OpenListed, first_listed, open_value, open_listing, Reached, Ended, Finished, GoesOn, IfOpened, Runs}
 use Rattle.format.specs.Lines.{placed, ending}
-use Rattle.script.specs.Run.{Left, stops, open_line, past_open}
-use Rattle.script.specs.Standing.{Begins, Stays, GoesTo, first_end, leaving}
+use Rattle.script.specs.Run.{Left, stops, open_line}
+use Rattle.script.specs.Standing.{Begins, Stays, Leads, leaving}
 use Rattle.format.proofs.Endings.{placed_full}
 
 module _ {L S : Type 0} (log : logger.Ghosts L) (m : Machine S) (n f : ℕ) (s : List ℕ) (a₀ : System S L) (i₀ k₀ : ℕ) (xs₀ : List ℕ) (w₀ : ℕ)
@@ -110,26 +110,19 @@ module _ {L S : Type 0} (log : logger.Ghosts L) (laws : Laws log) (machine : ℕ
           let fault-is : fault ≡ RunFault.Cluster e = cc in
           same _ (O.listing ∙ ap (λ (r : Answer). open_listing r before) answer) fault-is
 
--- the same from a course c, which has not begun, to d
-module _ {L S : Type 0} (log : logger.Ghosts L) (laws : Laws log) (machine : ℕ → Machine S) (n f : ℕ) (a b : System S L) (c d : Course) (l m : Listing) (begins : Begins c l) where
-  abbrev Open : Result (Unit {0}) RunFault → Type 0
-  Open r = OpenListed log machine n f l.bytes.now a (first_end r m) m.bytes.now b
-
-  pub opens : (p : Left) → Open (Ok tt) → GoesTo past_open c d → d.script ≡ c.script
-      → Finished log d.script.now b d.place d.number m.bytes.now m.written p → Runs log machine n f c.script.now l.bytes.now p
-  opens p O A same F =
-      goes_on log laws machine n f c.script.now l.bytes.now a b m.bytes.now m.written p O
-      (subst (λ (s : List ℕ). Finished log s b 5 2 m.bytes.now m.written p) (ap (λ x. x.now) same)
-      (subst (λ (k : ℕ). Finished log d.script.now b 5 k m.bytes.now m.written p) number
-      (subst (λ (i : ℕ). Finished log d.script.now b i d.number m.bytes.now m.written p) A.place F)))
+-- the same from a course c, which has not begun, over the listing l
+module _ {L S : Type 0} (log : logger.Ghosts L) (laws : Laws log) (machine : ℕ → Machine S) (n f : ℕ) (a b : System S L) (c : Course) (l : Listing) (begins : Begins c l) where
+  pub opens : (xs : List ℕ) (w : ℕ) → OpenListed log machine n f l.bytes.now a (Ok w) xs b → (p : Left) → Finished log c.script.now b 5 (c.number + 1) xs w p
+      → Runs log machine n f c.script.now l.bytes.now p
+  opens xs w O p F = goes_on log laws machine n f c.script.now l.bytes.now a b xs w p O (subst (λ (k : ℕ). Finished log c.script.now b 5 k xs w p) second F)
     where
-      number : d.number ≡ 2
-      number = omega (arith, A.number, begins.number)
+      second : c.number + 1 ≡ 2
+      second = omega (arith, begins.number)
 
-  pub opens_not : (f' : RunFault) (r : Result (Unit {0}) RunFault) → Open (Err f') → Stays c d l m → IsErrAnd r (λ e. e ≡ f')
-      → Runs log machine n f c.script.now l.bytes.now (leaving d m r)
-  opens_not f' (Ok u) O A h = absurd h
-  opens_not f' (Err e) O A h =
+  pub opens_not : (f' : RunFault) (r : Result (Unit {0}) RunFault) (d : Course) (m : Listing) → OpenListed log machine n f l.bytes.now a (Err f') m.bytes.now b
+      → Stays c d l m → IsErrAnd r (λ e. e ≡ f') → Leads log machine n f c.script.now l.bytes.now b r d m
+  opens_not f' (Ok u) d m O A h = absurd h
+  opens_not f' (Err e) d m O A h =
       subst (λ (x : Left). Runs log machine n f c.script.now l.bytes.now x) stays
       (stops_at_once log laws machine n f c.script.now l.bytes.now a b m.bytes.now f' O)
     where

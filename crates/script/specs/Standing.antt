@@ -1,10 +1,14 @@
 -- What the contracts see of a course as the code holds it: where it stands, and what a run leaves that ends there.
-use Rattle.std.specs.Prelude.{◌≡◌, ℕ, ◌+◌, Bool, true, false, Some, None, Ok, Err, Option, Result}
+use Rattle.std.specs.Prelude.{◌≡◌, ℕ, ◌+◌, Bool, true, false, List, Some, None, Ok, Err, Option, Result}
+use Rattle.workload.specs.Machine.{Machine}
+use Rattle.logger.specs.declared.logger.Logger as logger
+use Rattle.calls.specs.Calls.{System}
 use Rattle.format.specs.declared.fault.RunFault.{RunFault}
 use Rattle.format.specs.declared.listing.Listing.{Listing}
 use Rattle.format.specs.Reader.{reading, past}
 use Rattle.script.specs.declared.run.course.Course.{Course}
 use Rattle.script.specs.Run.{Left, ends, stops, past_open}
+use Rattle.script.specs.Course.{Finished, Runs}
 
 -- before the first command
 pub record Begins (c : Course) (l : Listing) : Type 0 where
@@ -52,3 +56,9 @@ turn_end (Err e) m = Err e
 abbrev pub leaving : Course → Listing → Result (Unit {0}) RunFault → Left
 leaving c l (Ok u) = ends l.bytes.now l.written
 leaving c l (Err e) = stops l.bytes.now l.written e c.number c.place
+
+-- Where an open leads: to what the turns after it leave, if it goes on; else the run ends there.
+module _ {L S : Type 0} (log : logger.Ghosts L) (machine : ℕ → Machine S) (n f : ℕ) (s before : List ℕ) (a : System S L) where
+  abbrev pub Leads : Result (Unit {0}) RunFault → Course → Listing → Type 0
+  Leads (Ok u) c l = (p : Left) → Finished log s a c.place c.number l.bytes.now l.written p → Runs log machine n f s before p
+  Leads (Err e) c l = Runs log machine n f s before (leaving c l (Err e))

@@ -3,7 +3,7 @@ ghost use Rattle.cluster.specs.View.{system};
 ghost use Rattle.format.specs.Reader.{reading};
 ghost use Rattle.script.specs.Course.{OpenListed, Turned, Finished, Runs};
 ghost use Rattle.script.specs.Run.{left};
-ghost use Rattle.script.specs.Standing.{Begins, SameRun, AfterOpen, AfterTurn, first_end, turn_end, leaving};
+ghost use Rattle.script.specs.Standing.{Begins, SameRun, AfterOpen, AfterTurn, Leads, first_end, turn_end, leaving};
 
 use super::Ran;
 use super::course::Course;
@@ -28,6 +28,7 @@ impl Course<'_> {
         ensures listed { OpenListed L.Logger W.Workload.machine n f listing.old.bytes.now (system W.Workload cluster.old) (first_end result listing.new) listing.new.bytes.now (system W.Workload cluster.new) }
         ensures same { SameRun self.old self.new listing.old listing.new }
         ensures after { AfterOpen result self.old self.new listing.old listing.new }
+        ensures leads { Leads L.Logger W.Workload.machine n f self.old.script.now listing.old.bytes.now (system W.Workload cluster.new) result self.new listing.new }
     {
         let answer = cluster.open(n, f)?;
         let opened = Entry {
